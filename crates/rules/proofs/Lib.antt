@@ -1,0 +1,2 @@
+-- The laws of the rules, and the claims of the worked runs.
+pub mod Evaluation

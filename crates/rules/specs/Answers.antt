@@ -1,0 +1,111 @@
+-- Document 01: the whole answer of a call, in the document's numbers and values, and the trace afterwards.
+use Prim.Native.Nat.{ℕ, _/_}
+use mathlib.Core.List.{List, [], _∷_, _++_}
+use mathlib.Core.Bool.{false}
+use lib.ListN.{length, drop}
+use Rattle.rules.specs.declared.Judged.{Judged}
+use Rattle.rules.specs.declared.Ended.{Ended}
+use Rattle.rules.specs.declared.Checked.{Checked}
+use Rattle.rules.specs.Limits.{recordWords}
+use Rattle.rules.specs.Rows.{rowsOf}
+use Rattle.rules.specs.Trees.{recipe}
+use Rattle.rules.specs.Judging.{orElse, judge, judgeTrace}
+use Rattle.rules.specs.Running.{Record, State, Terms, Outcome, start, run}
+use Rattle.rules.specs.LevelCheck.{Walked, walk, checkedOf}
+
+-- What document 01 says of an answer: accepted; refused, with its number and row; a run's verdict and place; the level
+-- check's pass, or fail with the lowest failing row.
+pub data Said : Type 0 where
+  accepted : Said
+  refused : ℕ → ℕ → Said
+  verdict : ℕ → ℕ → Said
+  pass : Said
+  fail : ℕ → Said
+
+-- "Where the answer is an enum, there is a definition that gives this paper's number and values for each of its cases."
+unfoldable pub saidOfJudge : Judged → Said
+saidOfJudge Judged.Accepted = accepted
+saidOfJudge (Judged.Refused number row) = refused number row
+
+-- "budget used up gives verdict 2; else a denied output gives 1; else an output without room gives 3"; "A finished run is
+-- verdict 0"; "Place is the output's row for verdicts 1 and 3, and 0 otherwise."
+unfoldable pub saidOfRun : Ended → Said
+saidOfRun Ended.Done = verdict 0 0
+saidOfRun (Ended.Stopped row) = verdict 1 row
+saidOfRun Ended.Spent = verdict 2 0
+saidOfRun (Ended.NoRoom row) = verdict 3 row
+saidOfRun (Ended.Refused number row) = refused number row
+
+unfoldable pub saidOfCheck : Checked → Said
+saidOfCheck Checked.Pass = pass
+saidOfCheck (Checked.Fail row) = fail row
+saidOfCheck (Checked.Refused number row) = refused number row
+
+-- The judge's answer.
+unfoldable pub judgement : List ℕ → Said
+judgement words = saidOfJudge (judge words)
+
+-- A run's whole answer. "Memory, marks, steps and records are those reached; marks do not include what is still in the pile."
+pub record Whole : Type 0 where
+  pub said : Said
+  pub steps : ℕ
+  pub records : List Record
+  pub memory : List ℕ
+  pub marks : ℕ
+
+unfoldable pub reached : Outcome → Whole
+reached o = record {
+  said = saidOfRun (o .ended);
+  steps = o .state .steps;
+  records = o .state .records;
+  memory = o .state .memory;
+  marks = o .state .marks;
+}
+
+-- "A refused run answers its number and row instead of verdict and place, with 0 steps and 0 records, returns memory and
+-- marks as given and writes no trace word."
+unfoldable pub answered : Judged → Terms → ℕ → State → Whole
+answered Judged.Accepted terms budget σ = reached (run terms budget σ)
+answered (Judged.Refused number row) terms budget σ = record {
+  said = refused number row;
+  steps = 0;
+  records = [];
+  memory = σ .memory;
+  marks = σ .marks;
+}
+
+-- "Room is half the word count, rounded down."
+unfoldable pub termsOf : ℕ → Terms
+termsOf traceWords = record { room = traceWords / recordWords }
+
+-- The answer of a run, from the table's words, memory, marks, budget and the number of trace words that are lent.
+unfoldable pub answer : List ℕ → List ℕ → ℕ → ℕ → ℕ → Whole
+answer words memory marks budget traceWords =
+    answered
+    (orElse (judge words) (judgeTrace traceWords))
+    (termsOf traceWords)
+    budget
+    (start (recipe (rowsOf words)) memory marks)
+
+-- "A record is two trace words: channel, value."
+unfoldable pub traceWordsOf : List Record → List ℕ
+traceWordsOf [] = []
+traceWordsOf (r ∷ rs) = r .channel ∷ r .value ∷ traceWordsOf rs
+
+-- "Words after the last record keep their old contents."
+unfoldable pub traceAfter : List Record → List ℕ → List ℕ
+traceAfter records trace = traceWordsOf records ++ drop (length (traceWordsOf records)) trace
+
+-- The level check's whole answer: what it says, "and the final marks in either case".
+pub record Advised : Type 0 where
+  pub said : Said
+  pub marks : ℕ
+
+-- "The level check can meet 1 to 5; it then returns its marks as given."
+unfoldable pub advised : Judged → ℕ → Walked → Advised
+advised Judged.Accepted marks w = record { said = saidOfCheck (checkedOf (w .failing)); marks = w .marks }
+advised (Judged.Refused number row) marks w = record { said = refused number row; marks = marks }
+
+-- "Start with a mark set and a settled context."
+unfoldable pub advice : List ℕ → ℕ → Advised
+advice words marks = advised (judge words) marks (walk (recipe (rowsOf words)) false marks)

@@ -1,0 +1,36 @@
+-- Document 01: "A mark set is 32 bits; bit i set means that vi is provisional." Every set of variables is such a number.
+use Prim.Native.Nat.{ℕ, zero, suc, _+_, _*_, _/_, _%_}
+use mathlib.Core.Bool.{Bool, true, false, cond, not}
+use lib.Bits.{bitOr}
+use lib.Dec.{T, eqb}
+
+-- the set of no variable
+unfoldable pub none : ℕ
+none = 0
+
+-- bit i of the set is set
+unfoldable pub has : ℕ → ℕ → Bool
+has set zero = eqb (set % 2) 1
+has set (suc i) = has (set / 2) i
+
+-- the set with bit i set or cleared
+unfoldable pub put : ℕ → Bool → ℕ → ℕ
+put zero bit set = set / 2 * 2 + cond bit 1 0
+put (suc i) bit set = put i bit (set / 2) * 2 + set % 2
+
+-- the set of one variable
+unfoldable pub only : ℕ → ℕ
+only i = put i true none
+
+-- what stands in either set
+unfoldable pub union : ℕ → ℕ → ℕ
+union a b = bitOr a b
+
+-- every variable of the one set is in the other
+infix 4 _⊆_
+abbrev pub _⊆_ : ℕ → ℕ → Type 0
+a ⊆ b = (i : ℕ) → T (has a i) → T (has b i)
+
+-- A level is the set of marked variables that were read; it is "provisional when some variable read in it is marked".
+unfoldable pub provisional : ℕ → Bool
+provisional level = not (eqb level 0)

@@ -1,0 +1,196 @@
+-- Document 01, "How a run goes": the state, one step, and the run.
+use Prim.Native.Nat.{ℕ, zero, suc, _+_}
+use mathlib.Core.Bool.{Bool, true, false, cond, _||_, _&&_}
+use mathlib.Core.List.{List, [], _∷_, _++_}
+use lib.Dec.{eqb, ltb}
+use lib.ListN.{length, set}
+use Rattle.rules.specs.declared.Ended.{Ended}
+use Rattle.rules.specs.Marks.{none, put, union, provisional}
+use Rattle.rules.specs.Trees.{Expr, Stmt, skip, assign, sequence, if, while, output}
+use Rattle.rules.specs.Values.{value, holds, level, mayAssign}
+
+-- What is still to be done: a statement, or a close.
+pub data Item : Type 0 where
+  statement : Stmt → Item
+  close : Item
+
+-- "A record is two trace words: channel, value."
+pub record Record : Type 0 where
+  pub channel : ℕ
+  pub value : ℕ
+
+-- The pending items, next one first; memory, marks and pile, its top first; the records so far; the steps so far.
+pub record State : Type 0 where
+  pub pending : List Item
+  pub memory : List ℕ
+  pub marks : ℕ
+  pub pile : List ℕ
+  pub records : List Record
+  pub steps : ℕ
+
+-- What a run is given besides the state: the room for records.
+pub record Terms : Type 0 where
+  pub room : ℕ
+
+-- "The monitor holds the marks and a pile of mark sets, empty at the start."
+unfoldable pub start : Stmt → List ℕ → ℕ → State
+start recipe memory marks = record {
+  pending = statement recipe ∷ [];
+  memory = memory;
+  marks = marks;
+  pile = [];
+  records = [];
+  steps = 0;
+}
+
+-- "The run's context is provisional when the pile is not empty."
+unfoldable pub context : List ℕ → Bool
+context [] = false
+context (top ∷ below) = true
+
+-- the expression is provisional, or the context
+unfoldable pub guarded : Expr → State → Bool
+guarded e σ = provisional (level (σ .marks) e) || context (σ .pile)
+
+-- "If the test or context is provisional, push the set"
+unfoldable pub push : Bool → ℕ → List ℕ → List ℕ
+push true pushed pile = pushed ∷ pile
+push false pushed pile = pile
+
+-- "Each line is one step": each of the following is one, and counts it.
+
+-- "skip: nothing changes."
+unfoldable pub skipped : List Item → State → State
+skipped rest σ = record {
+  pending = rest;
+  memory = σ .memory;
+  marks = σ .marks;
+  pile = σ .pile;
+  records = σ .records;
+  steps = σ .steps + 1;
+}
+
+-- "assign: the variable takes the value. It is marked if the expression or the context is provisional, and unmarked
+-- otherwise."
+unfoldable pub assigned : ℕ → Expr → List Item → State → State
+assigned v e rest σ = record {
+  pending = rest;
+  memory = set (σ .memory) v (value (σ .memory) e);
+  marks = put v (guarded e σ) (σ .marks);
+  pile = σ .pile;
+  records = σ .records;
+  steps = σ .steps + 1;
+}
+
+-- a test was looked at: these items come next, and this set is pushed if the test or the context is provisional
+unfoldable pub opened : List Item → Expr → ℕ → State → State
+opened next test pushed σ = record {
+  pending = next;
+  memory = σ .memory;
+  marks = σ .marks;
+  pile = push (guarded test σ) pushed (σ .pile);
+  records = σ .records;
+  steps = σ .steps + 1;
+}
+
+-- "if: the taken branch comes next, then a close. If the test or context is provisional, push the set of all variables
+-- that the branch not taken may assign."
+unfoldable pub branched : Bool → Expr → Stmt → Stmt → List Item → State → State
+branched true test then else rest σ = opened (statement then ∷ close ∷ rest) test (mayAssign else) σ
+branched false test then else rest σ = opened (statement else ∷ close ∷ rest) test (mayAssign then) σ
+
+-- "while, test holds: body, close, then the same while. If the test or context is provisional, push the empty set."
+-- "while, test fails: a close. If the test or context is provisional, push the set that the body may assign."
+unfoldable pub turned : Bool → Expr → Stmt → List Item → State → State
+turned true test body rest σ = opened (statement body ∷ close ∷ statement (while test body) ∷ rest) test none σ
+turned false test body rest σ = opened (close ∷ rest) test (mayAssign body) σ
+
+-- "close: if the pile is not empty, pop its top and add that set to the marks."
+unfoldable pub closedMarks : List ℕ → ℕ → ℕ
+closedMarks [] marks = marks
+closedMarks (top ∷ below) marks = union top marks
+
+unfoldable pub popped : List ℕ → List ℕ
+popped [] = []
+popped (top ∷ below) = below
+
+unfoldable pub closed : List Item → State → State
+closed rest σ = record {
+  pending = rest;
+  memory = σ .memory;
+  marks = closedMarks (σ .pile) (σ .marks);
+  pile = popped (σ .pile);
+  records = σ .records;
+  steps = σ .steps + 1;
+}
+
+-- a record of the channel and the expression's value
+unfoldable pub recorded : ℕ → Expr → List Item → State → State
+recorded channel e rest σ = record {
+  pending = rest;
+  memory = σ .memory;
+  marks = σ .marks;
+  pile = σ .pile;
+  records = σ .records ++ (record { channel = channel; value = value (σ .memory) e } ∷ []);
+  steps = σ .steps + 1;
+}
+
+-- What comes of going on with a state: nothing is pending; the output at this row is denied, or without room; or the
+-- step is taken.
+pub data Attempt : Type 0 where
+  finished : Attempt
+  denied : ℕ → Attempt
+  roomless : ℕ → Attempt
+  taken : State → Attempt
+
+-- "output on channel 1: a record. Output on channel 0: a record if expression and context are settled; otherwise the
+-- monitor stops the run."
+unfoldable pub isDenied : ℕ → Expr → State → Bool
+isDenied channel e σ = eqb channel 0 && guarded e σ
+
+-- "else a denied output gives 1; else an output without room gives 3; else the step is taken": whether the output is
+-- denied, and whether there is room for one record more
+unfoldable pub outputAttempt : Bool → Bool → ℕ → State → Attempt
+outputAttempt true room row next = denied row
+outputAttempt false false row next = roomless row
+outputAttempt false true row next = taken next
+
+-- The next step where a statement is next. "A sequence takes no step of its own."
+unfoldable pub begin : Terms → Stmt → List Item → State → Attempt
+begin terms skip rest σ = taken (skipped rest σ)
+begin terms (assign v e) rest σ = taken (assigned v e rest σ)
+begin terms (sequence s t) rest σ = begin terms s (statement t ∷ rest) σ
+begin terms (if e s t) rest σ = taken (branched (holds (σ .memory) e) e s t rest σ)
+begin terms (while e s) rest σ = taken (turned (holds (σ .memory) e) e s rest σ)
+begin terms (output channel e row) rest σ =
+    outputAttempt (isDenied channel e σ) (ltb (length (σ .records)) (terms .room)) row (recorded channel e rest σ)
+
+unfoldable pub attempt : Terms → List Item → State → Attempt
+attempt terms [] σ = finished
+attempt terms (statement s ∷ rest) σ = begin terms s rest σ
+attempt terms (close ∷ rest) σ = taken (closed rest σ)
+
+-- How a run ended, and the state that it reached.
+pub record Outcome : Type 0 where
+  pub ended : Ended
+  pub state : State
+
+unfoldable pub outcome : Ended → State → Outcome
+outcome ended σ = record { ended = ended; state = σ }
+
+-- "A finished run is verdict 0, also when its last step used the budget."
+unfoldable pub atBudget : List Item → Ended
+atBudget [] = Ended.Done
+atBudget (item ∷ rest) = Ended.Spent
+
+-- "else the step is taken and counted": where the step is taken, onward goes on
+unfoldable pub follow : (State → Outcome) → State → Attempt → Outcome
+follow onward σ finished = outcome Ended.Done σ
+follow onward σ (denied row) = outcome (Ended.Stopped row) σ
+follow onward σ (roomless row) = outcome (Ended.NoRoom row) σ
+follow onward σ (taken next) = onward next
+
+-- "Before each step of an unfinished run: budget used up gives verdict 2; else .."
+unfoldable pub run : Terms → ℕ → State → Outcome
+run terms zero σ = outcome (atBudget (σ .pending)) σ
+run terms (suc budget) σ = follow (run terms budget) σ (attempt terms (σ .pending) σ)
