@@ -11,6 +11,8 @@ use Rattle.rules.specs.LevelCheck.{walked, joined, afterwards, united, r
 use Rattle.rules.specs.Answers.{saidOfJudge, saidOfRun, saidOfCheck, judgement, reached, answered, termsOf, answer, traceWordsOf, traceAfter, advised, advice}
 use Rattle.rules.specs.Cases.{wordsOf, memoryOf, answerTo, resultOf, recordless}
 use Rattle.rules.specs.Starred.{starred, Starred}
+use Rattle.rules.specs.Further.{further, Further}
+use Rattle.rules.specs.Refusals.{grown, judgements, traced, CaseJ, CaseK}
 
 -- Whoever unfolds this unfolds every rule.
 rules : Unit {0}
@@ -20,3 +22,15 @@ rules = tt
 pub starred-met : Starred
 unfolding rules starred
 starred-met = refl
+
+pub further-met : Further
+unfolding rules further
+further-met = refl
+
+pub J-met : CaseJ
+unfolding rules
+J-met = (refl, refl, refl)
+
+pub K-met : CaseK
+unfolding rules grown judgements traced
+K-met = (refl, refl, refl)

@@ -1,2 +1,3 @@
 -- The laws of the rules, and the claims of the worked runs.
+pub mod Marking
 pub mod Evaluation

@@ -12,3 +12,5 @@ pub mod LevelCheck
 pub mod Answers
 pub mod Cases
 pub mod Starred
+pub mod Further
+pub mod Refusals

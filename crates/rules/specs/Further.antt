@@ -1,0 +1,109 @@
+-- Runs that A to I do not cover, with everything that is expected of each: L to P, the document's whole case, and a
+-- denied output with no budget left.
+use Prim.Native.Nat.{ℕ}
+use mathlib.Core.List.{List, [], _∷_}
+use Rattle.rules.specs.Answers.{verdict, pass, fail}
+use Rattle.rules.specs.Cases.{Quad, memoryOf, Case, Met, usual, usualMarks, usualTrace, recordless}
+
+-- L. v1:=0; if v0 then (if v2 then v1:=1 else skip) else skip; output settled v1
+abbrev tableL : List Quad
+tableL =
+    (8, 0, 0, 0) ∷ (1, 1, 0, 0)
+    ∷ (9, 0, 0, 0) ∷ (9, 2, 0, 0) ∷ (8, 1, 0, 0) ∷ (1, 1, 4, 0) ∷ (0, 0, 0, 0) ∷ (3, 3, 5, 6) ∷ (0, 0, 0, 0) ∷ (3, 2, 7, 8)
+    ∷ (9, 1, 0, 0) ∷ (5, 0, 10, 0)
+    ∷ (2, 9, 11, 0) ∷ (2, 1, 12, 0)
+    ∷ []
+
+-- M. if v0 then (if v2 then v1:=1 else skip; output settled 5) else v3:=1
+abbrev tableM : List Quad
+tableM =
+    (9, 0, 0, 0)
+    ∷ (9, 2, 0, 0) ∷ (8, 1, 0, 0) ∷ (1, 1, 2, 0) ∷ (0, 0, 0, 0) ∷ (3, 1, 3, 4)
+    ∷ (8, 5, 0, 0) ∷ (5, 0, 6, 0) ∷ (2, 5, 7, 0)
+    ∷ (8, 1, 0, 0) ∷ (1, 3, 9, 0)
+    ∷ (3, 0, 8, 10)
+    ∷ []
+
+-- N. while v0 do (output settled 5; v0:=v0-1)
+abbrev tableN : List Quad
+tableN =
+    (9, 0, 0, 0)
+    ∷ (8, 5, 0, 0) ∷ (5, 0, 1, 0)
+    ∷ (9, 0, 0, 0) ∷ (8, 1, 0, 0) ∷ (10, 1, 3, 4) ∷ (1, 0, 5, 0)
+    ∷ (2, 2, 6, 0) ∷ (4, 0, 7, 0)
+    ∷ []
+
+-- O. if v0 then skip else (v2:=1; while v3 do if v4 then skip else v1:=1)
+abbrev tableO : List Quad
+tableO =
+    (9, 0, 0, 0) ∷ (0, 0, 0, 0)
+    ∷ (8, 1, 0, 0) ∷ (1, 2, 2, 0)
+    ∷ (9, 3, 0, 0) ∷ (9, 4, 0, 0) ∷ (0, 0, 0, 0) ∷ (8, 1, 0, 0) ∷ (1, 1, 7, 0) ∷ (3, 5, 6, 8) ∷ (4, 4, 9, 0)
+    ∷ (2, 3, 10, 0) ∷ (3, 0, 1, 11)
+    ∷ []
+
+-- P. while v2 do (output settled v1; v1:=v0)
+abbrev tableP : List Quad
+tableP = (9, 2, 0, 0) ∷ (9, 1, 0, 0) ∷ (5, 0, 1, 0) ∷ (9, 0, 0, 0) ∷ (1, 1, 3, 0) ∷ (2, 2, 4, 0) ∷ (4, 0, 5, 0) ∷ []
+
+-- the whole case of "Job and report": output settled v0; output provisional v1
+abbrev tableWhole : List Quad
+tableWhole = (9, 0, 0, 0) ∷ (5, 0, 0, 0) ∷ (9, 1, 0, 0) ∷ (5, 1, 2, 0) ∷ (2, 1, 3, 0) ∷ []
+
+-- output settled v0
+abbrev tableDenied : List Quad
+tableDenied = (9, 0, 0, 0) ∷ (5, 0, 0, 0) ∷ []
+
+-- v0 is 1, and the other variables are 0
+abbrev one : List ℕ
+one = 1 ∷ []
+
+-- "verdict 1, 6 steps, marks 3"
+abbrev runL : Case
+runL = recordless (usual tableL one) (verdict 1 11) 6 one 3 (fail 11) 3
+
+-- "verdict 1, 4 steps, marks 3"
+abbrev runM : Case
+runM = recordless (usual tableM one) (verdict 1 7) 4 one 3 (fail 7) 11
+
+-- "verdict 1, 1 step"
+abbrev runN : Case
+runN = recordless (usual tableN one) (verdict 1 2) 1 one 1 (fail 2) 1
+
+-- "verdict 0, 3 steps, marks 7"
+abbrev runO : Case
+runO = recordless (usual tableO one) (verdict 0 0) 3 one 7 pass 7
+
+-- the check "fails, marks 3"; its run does not enter the loop
+abbrev runP : Case
+runP = recordless (usual tableP one) (verdict 0 0) 2 one 1 (fail 2) 3
+
+abbrev runWhole : Case
+runWhole = record {
+  given = record { table = tableWhole; memory = 7 ∷ 9 ∷ []; marks = 2; budget = 10; trace = 70 ∷ 71 ∷ 72 ∷ 73 ∷ [] };
+  expected = record {
+    whole = record {
+      said = verdict 0 0;
+      steps = 2;
+      records = record { channel = 0; value = 7 } ∷ record { channel = 1; value = 9 } ∷ [];
+      memory = memoryOf (7 ∷ 9 ∷ []);
+      marks = 2;
+    };
+    trace = 0 ∷ 7 ∷ 1 ∷ 9 ∷ [];
+    advised = record { said = pass; marks = 2 };
+  };
+}
+
+-- "budget used up gives verdict 2; else a denied output gives 1"
+abbrev runDenied : Case
+runDenied =
+    recordless
+    (record { table = tableDenied; memory = one; marks = usualMarks; budget = 0; trace = usualTrace })
+    (verdict 2 0) 0 one 1 (fail 1) 1
+
+unfoldable pub further : List Case
+further = runL ∷ runM ∷ runN ∷ runO ∷ runP ∷ runWhole ∷ runDenied ∷ []
+
+-- The claim: every one of these runs comes out whole as expected.
+abbrev pub Further : Type 0
+Further = Met further
