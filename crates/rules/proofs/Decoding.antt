@@ -1,0 +1,78 @@
+-- The trees of a judged table: what an expression row and a statement row stand for, in terms of their children.
+use Prim.Native.Nat.{ℕ, zero, suc, _+_, _≤_, _<_}
+use native.Mathlib.Omega.{arith}
+use native.Mathlib.Decide.{decLt}
+use mathlib.Core.Bool.{Bool, true, false}
+use mathlib.Core.List.{List}
+use mathlib.Core.Path.{_≡_, refl, sym, ap, ap₂, _∙_, subst}
+use lib.ListN.{length}
+use Rattle.rules.specs.declared.Kind.{Kind}
+use Rattle.rules.specs.declared.Row.{Row}
+use Rattle.rules.specs.Rows.{rolesOf, rowAt, absent}
+use Rattle.rules.specs.Trees.{Expr, binary, Stmt, assign, sequence, if, while, output, operatorOf, exprNode, stmtNode, exprIn, exprAt, stmtIn, stmtAt}
+use Rattle.rules.specs.Sound.{SoundRow, Sound}
+use Rattle.rules.proofs.Accepting.{row-absent}
+
+-- two readings of the children that agree below row i make one tree of row i
+expr-agree :
+    (rows : List Row) (i : ℕ) (row : Row) (f g : ℕ → Expr) → ((j : ℕ) → j < i → f j ≡ g j) → (kind : Kind)
+    → SoundRow rows i kind row → exprNode f row kind ≡ exprNode g row kind
+unfolding exprNode rolesOf
+expr-agree rows i row f g same Kind.Skip sound = refl
+expr-agree rows i row f g same Kind.Assign sound = refl
+expr-agree rows i row f g same Kind.Sequence sound = refl
+expr-agree rows i row f g same Kind.If sound = refl
+expr-agree rows i row f g same Kind.While sound = refl
+expr-agree rows i row f g same Kind.Output sound = refl
+expr-agree rows i row f g same Kind.Constant sound = refl
+expr-agree rows i row f g same Kind.Variable sound = refl
+expr-agree rows i row f g same Kind.Binary sound =
+    ap₂ (binary (operatorOf (row .p))) (same (row .q) (sound .q .0)) (same (row .r) (sound .r .0))
+expr-agree rows i row f g same Kind.Unknown sound = refl
+
+stmt-agree :
+    (rows : List Row) (i : ℕ) (row : Row) (test : ℕ → Expr) (f g : ℕ → Stmt) → ((j : ℕ) → j < i → f j ≡ g j) → (kind : Kind)
+    → SoundRow rows i kind row → stmtNode test f i row kind ≡ stmtNode test g i row kind
+unfolding stmtNode rolesOf
+stmt-agree rows i row test f g same Kind.Skip sound = refl
+stmt-agree rows i row test f g same Kind.Assign sound = refl
+stmt-agree rows i row test f g same Kind.Sequence sound =
+    ap₂ sequence (same (row .p) (sound .p .0)) (same (row .q) (sound .q .0))
+stmt-agree rows i row test f g same Kind.If sound =
+    ap₂ (if (test (row .p))) (same (row .q) (sound .q .0)) (same (row .r) (sound .r .0))
+stmt-agree rows i row test f g same Kind.While sound = ap (while (test (row .p))) (same (row .q) (sound .q .0))
+stmt-agree rows i row test f g same Kind.Output sound = refl
+stmt-agree rows i row test f g same Kind.Constant sound = refl
+stmt-agree rows i row test f g same Kind.Variable sound = refl
+stmt-agree rows i row test f g same Kind.Binary sound = refl
+stmt-agree rows i row test f g same Kind.Unknown sound = refl
+
+module _ (rows : List Row) (sound : Sound rows) where
+  -- enough levels for row i: any more give the same tree
+  expr-levels : (m n i : ℕ) → i < length rows → i < m → i < n → exprIn m rows i ≡ exprIn n rows i
+  unfolding exprIn
+  expr-levels zero n i h hm hn = absurd (omega arith)
+  expr-levels (suc m) zero i h hm hn = absurd (omega arith)
+  expr-levels (suc m) (suc n) i h hm hn =
+      expr-agree rows i (rowAt rows i) (exprIn m rows) (exprIn n rows)
+      (λ j k. expr-levels m n j (omega arith) (omega arith) (omega arith)) (rowAt rows i .kind) (sound .row i h)
+
+  stmt-levels : (m n i : ℕ) → i < length rows → i < m → i < n → stmtIn m rows i ≡ stmtIn n rows i
+  unfolding stmtIn
+  stmt-levels zero n i h hm hn = absurd (omega arith)
+  stmt-levels (suc m) zero i h hm hn = absurd (omega arith)
+  stmt-levels (suc m) (suc n) i h hm hn =
+      stmt-agree rows i (rowAt rows i) (exprAt rows) (stmtIn m rows) (stmtIn n rows)
+      (λ j k. stmt-levels m n j (omega arith) (omega arith) (omega arith)) (rowAt rows i .kind) (sound .row i h)
+
+  pub expr-law : (i : ℕ) → i < length rows → exprAt rows i ≡ exprNode (exprAt rows) (rowAt rows i) (rowAt rows i .kind)
+  unfolding exprAt exprIn
+  expr-law i h =
+      expr-agree rows i (rowAt rows i) (exprIn i rows) (exprAt rows)
+      (λ j k. expr-levels i (suc j) j (omega arith) k (omega arith)) (rowAt rows i .kind) (sound .row i h)
+
+  pub stmt-law : (i : ℕ) → i < length rows → stmtAt rows i ≡ stmtNode (exprAt rows) (stmtAt rows) i (rowAt rows i) (rowAt rows i .kind)
+  unfolding stmtAt stmtIn
+  stmt-law i h =
+      stmt-agree rows i (rowAt rows i) (exprAt rows) (stmtIn i rows) (stmtAt rows)
+      (λ j k. stmt-levels i (suc j) j (omega arith) k (omega arith)) (rowAt rows i .kind) (sound .row i h)
