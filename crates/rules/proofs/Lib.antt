@@ -2,4 +2,5 @@
 pub mod Marking
 pub mod Accepting
 pub mod Decoding
+pub mod Stepping
 pub mod Evaluation

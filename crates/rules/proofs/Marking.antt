@@ -67,6 +67,7 @@ either-digit a b = cases (digit a) (digit b)
     at : (c d : ℕ) → a % 2 ≡ c → b % 2 ≡ d → eqb (max c d) 1 ≡ (eqb c 1 || eqb d 1)
         → eqb (max (a % 2) (b % 2)) 1 ≡ (eqb (a % 2) 1 || eqb (b % 2) 1)
     at c d p q e = rw (p, q) e
+
     cases : (a % 2 ≡ 0) ⊎ (a % 2 ≡ 1) → (b % 2 ≡ 0) ⊎ (b % 2 ≡ 1)
         → eqb (max (a % 2) (b % 2)) 1 ≡ (eqb (a % 2) 1 || eqb (b % 2) 1)
     cases (inl p) (inl q) = at 0 0 p q refl
@@ -92,6 +93,7 @@ same-digit a b e = cases (digit a) (digit b)
   where
     differ : {A : Type 0} (c d : ℕ) → a % 2 ≡ c → b % 2 ≡ d → (eqb c 1 ≡ eqb d 1 → ⊥) → A
     differ c d p q f = absurd (f (rw (p, q) at e))
+
     cases : (a % 2 ≡ 0) ⊎ (a % 2 ≡ 1) → (b % 2 ≡ 0) ⊎ (b % 2 ≡ 1) → a % 2 ≡ b % 2
     cases (inl p) (inl q) = p ∙ sym q
     cases (inl p) (inr q) = differ 0 1 p q (λ f. eqb-false 1 1 (sym f) refl)
@@ -224,6 +226,7 @@ tested-digit m = cases (digit m)
   where
     at : (d : ℕ) → m % 2 ≡ d → eqb d 1 ≡ not (eqb d 0) → eqb (m % 2) 1 ≡ not (eqb (m % 2) 0)
     at d p e = rw p e
+
     cases : (m % 2 ≡ 0) ⊎ (m % 2 ≡ 1) → eqb (m % 2) 1 ≡ not (eqb (m % 2) 0)
     cases (inl p) = at 0 p refl
     cases (inr p) = at 1 p refl
