@@ -1,6 +1,6 @@
--- The laws of the rules, and the claims of the worked runs.
-pub mod Marking
-pub mod Accepting
-pub mod Decoding
-pub mod Stepping
+-- The laws of the rules, which every crate above cites, and the claims of the worked runs.
+pub mod MarkLaws
+pub mod JudgeLaws
+pub mod TreeLaws
+pub mod RunLaws
 pub mod Evaluation

@@ -4,7 +4,6 @@ use mathlib.Core.List.{List, [], _∷_, _++_, map}
 use mathlib.Core.Path.{_≡_}
 use lib.ListN.{length, replicate}
 use Rattle.rules.specs.Limits.{width}
-use Rattle.rules.specs.Running.{Record}
 use Rattle.rules.specs.Answers.{Said, Whole, answer, traceAfter, Advised, advice}
 
 -- a row as it is written: k, p, q, r

@@ -1,10 +1,9 @@
 -- Document 01, "Numbers for no": when each of the refusals 1 to 6 is given, and which one.
-use Prim.Native.Nat.{ℕ, zero, suc, _+_, _-_, _/_, _%_}
-use mathlib.Core.Bool.{Bool, true, false, cond, not, _||_, _&&_}
+use Prim.Native.Nat.{ℕ, zero, suc, _+_, _/_, _%_}
+use mathlib.Core.Bool.{Bool, false, cond, not, _||_}
 use mathlib.Core.List.{List, [], _∷_, _++_}
 use lib.Dec.{eqb, leb, ltb}
 use lib.ListN.{length}
-use Rattle.rules.specs.declared.Kind.{Kind}
 use Rattle.rules.specs.declared.Role.{Role}
 use Rattle.rules.specs.declared.Row.{Row}
 use Rattle.rules.specs.declared.Judged.{Judged}

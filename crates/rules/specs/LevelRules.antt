@@ -1,6 +1,6 @@
 -- Document 01, "Level check": the flow-sensitive rules of Hunt and Sands as they are declared, apart from any way to solve them.
 use Prim.Native.Nat.{ℕ}
-use mathlib.Core.Bool.{Bool, true, false, cond, _||_, _&&_}
+use mathlib.Core.Bool.{Bool, cond, _||_, _&&_}
 use mathlib.Core.List.{List, [], _∷_, _++_}
 use lib.Dec.{eqb}
 use Rattle.rules.specs.Marks.{put, union, _⊆_, provisional}

@@ -1,6 +1,6 @@
 -- Document 01: "A mark set is 32 bits; bit i set means that vi is provisional." Every set of variables is such a number.
 use Prim.Native.Nat.{ℕ, zero, suc, _+_, _*_, _/_, _%_}
-use mathlib.Core.Bool.{Bool, true, false, cond, not}
+use mathlib.Core.Bool.{Bool, true, cond, not}
 use lib.Bits.{bitOr}
 use lib.Dec.{T, eqb}
 

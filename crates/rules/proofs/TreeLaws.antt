@@ -1,17 +1,14 @@
 -- The trees of a judged table: what an expression row and a statement row stand for, in terms of their children.
-use Prim.Native.Nat.{ℕ, zero, suc, _+_, _≤_, _<_}
+use Prim.Native.Nat.{ℕ, zero, suc, _<_}
 use native.Mathlib.Omega.{arith}
-use native.Mathlib.Decide.{decLt}
-use mathlib.Core.Bool.{Bool, true, false}
 use mathlib.Core.List.{List}
-use mathlib.Core.Path.{_≡_, refl, sym, ap, ap₂, _∙_, subst}
+use mathlib.Core.Path.{_≡_, refl, ap, ap₂}
 use lib.ListN.{length}
 use Rattle.rules.specs.declared.Kind.{Kind}
 use Rattle.rules.specs.declared.Row.{Row}
-use Rattle.rules.specs.Rows.{rolesOf, rowAt, absent}
-use Rattle.rules.specs.Trees.{Expr, binary, Stmt, assign, sequence, if, while, output, operatorOf, exprNode, stmtNode, exprIn, exprAt, stmtIn, stmtAt}
+use Rattle.rules.specs.Rows.{rolesOf, rowAt}
+use Rattle.rules.specs.Trees.{Expr, binary, Stmt, sequence, if, while, operatorOf, exprNode, stmtNode, exprIn, exprAt, stmtIn, stmtAt}
 use Rattle.rules.specs.Sound.{SoundRow, Sound}
-use Rattle.rules.proofs.Accepting.{row-absent}
 
 -- two readings of the children that agree below row i make one tree of row i
 expr-agree :

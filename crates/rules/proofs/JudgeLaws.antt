@@ -1,20 +1,18 @@
 -- The judge: which refusal is given, and what follows from "accepted".
-use Prim.Native.Nat.{ℕ, zero, suc, _+_, _-_, _*_, _/_, _%_, _≤_, _<_}
+use Prim.Native.Nat.{ℕ, zero, suc, _+_, _*_, _/_, _%_, _≤_, _<_}
 use native.Mathlib.Omega.{arith}
-use mathlib.Core.Bool.{Bool, true, false, cond, not, _||_, true≢false}
+use mathlib.Core.Bool.{Bool, true, false, cond, _||_, true≢false}
 use mathlib.Core.List.{List, [], _∷_}
 use mathlib.Core.Path.{_≡_, refl, sym, ap, _∙_}
 use mathlib.Core.Logic.{_≢_}
-use lib.Dec.{eqb, leb, ltb}
+use lib.Dec.{eqb, leb}
 use lib.ListN.{length, getD}
 use borrow.Author.Tests.{eqb-true, eqb-false, ltb-false, leb-false, not-false, eq-eqb, ne-eqb}
-use Rattle.rules.specs.declared.Kind.{Kind}
 use Rattle.rules.specs.declared.Role.{Role}
 use Rattle.rules.specs.declared.Row.{Row}
 use Rattle.rules.specs.declared.Judged.{Judged}
-use Rattle.rules.specs.Limits.{rowWords, mostRows, mostHeight, mostNesting, mostLoopNesting}
-use Rattle.rules.specs.Rows.{rolesOf, rowsOf, rowOf, absent, rowAt, isExpression, isStatement, isUnknown}
-use Rattle.rules.specs.Trees.{exprAt, stmtAt, height, nesting, loopNesting}
+use Rattle.rules.specs.Limits.{rowWords, mostRows}
+use Rattle.rules.specs.Rows.{rolesOf, rowsOf, rowOf, absent, rowAt, isExpression}
 use Rattle.rules.specs.Judging.{wrongCount, wrongWord, wrongWords, wrongChild, wrongChildren, children, places, wrongParents, tooDeep, lowest, orElse, judgeRows, judge}
 use Rattle.rules.specs.Sound.{Fits, SoundRow, Shallow, Sound}
 

@@ -3,15 +3,15 @@
 use Prim.Native.Nat.{ℕ, zero, suc}
 use mathlib.Core.Bool.{Bool, true, false}
 use mathlib.Core.List.{List, [], _∷_}
-use mathlib.Core.Path.{_≡_, refl, sym, ap, ap₂, _∙_}
+use mathlib.Core.Path.{_≡_, refl, ap, ap₂, _∙_}
 use lib.Dec.{ltb}
 use lib.ListN.{length}
 use Rattle.rules.specs.declared.Ended.{Ended}
 use Rattle.rules.specs.Marks.{none}
 use Rattle.rules.specs.Trees.{Expr, Stmt, skip, assign, sequence, if, while, output}
 use Rattle.rules.specs.Values.{holds, mayAssign}
-use Rattle.rules.specs.Running.{Item, statement, close, State, Terms, guarded, push, skipped, assigned, opened, branched, turned, closed, recorded, Attempt, finished, denied, roomless, taken, isDenied, outputAttempt, begin, attempt, Outcome, outcome, atBudget, follow, run}
-use Rattle.rules.specs.Answers.{Whole, reached}
+use Rattle.rules.specs.Running.{Item, statement, close, State, Terms, guarded, skipped, assigned, opened, branched, turned, closed, recorded, Attempt, finished, denied, roomless, taken, isDenied, outputAttempt, begin, attempt, Outcome, outcome, atBudget, follow, run}
+use Rattle.rules.specs.Answers.{reached}
 
 -- the state with other items pending
 abbrev pub at : List Item → State → State
