@@ -12,7 +12,7 @@ use Rattle.rules.specs.Answers.{saidOfJudge, saidOfRun, saidOfCheck, jud
 use Rattle.rules.specs.Cases.{wordsOf, memoryOf, answerTo, resultOf, recordless}
 use Rattle.rules.specs.Starred.{starred, Starred}
 use Rattle.rules.specs.Further.{further, Further}
-use Rattle.rules.specs.Refusals.{grown, judgements, traced, CaseJ, CaseK}
+use Rattle.rules.specs.Refusals.{grown, judgements, traced, longest, CaseJ, CaseK, Longest}
 
 -- Whoever unfolds this unfolds every rule.
 rules : Unit {0}
@@ -34,3 +34,7 @@ J-met = (refl, refl, refl)
 pub K-met : CaseK
 unfolding rules grown judgements traced
 K-met = (refl, refl, refl)
+
+pub longest-met : Longest
+unfolding rules grown longest
+longest-met = (refl, refl)

@@ -10,7 +10,9 @@ use lib.Bits.{bitAnd, bitOr, and-step, or-step, and-zero-r, or-zero-r, or-comm, 
 use lib.Dec.{T, eqb}
 use lib.Pow.{pow-lt, pow-pos}
 use borrow.Author.Tests.{eqb-true, eqb-false, ne-eqb, not-false}
-use Rattle.rules.specs.Marks.{none, has, put, only, union, _⊆_, provisional}
+use lib.Count.{ones, onesIn, ones-step}
+use Rattle.rules.specs.Limits.{width}
+use Rattle.rules.specs.Marks.{none, has, put, only, union, _⊆_, provisional, markedBelow, marked}
 
 -- a digit is 0 or 1
 digit : (n : ℕ) → (n % 2 ≡ 0) ⊎ (n % 2 ≡ 1)
@@ -293,3 +295,38 @@ put-false (suc w) m (suc i) hi hm =
     (ap (bitAnd m) c ∙ and-step m (((2 ^ w - 1) - 2 ^ i) * 2 + 1)
     ∙ ap₂ (λ (x y : ℕ). bitAnd (m / 2) x * 2 + min (m % 2) y) half odd
     ∙ ap (λ (y : ℕ). bitAnd (m / 2) ((2 ^ w - 1) - 2 ^ i) * 2 + y) (omega arith))
+
+pub shift-one : (w i : ℕ) → i < w → (1 * 2 ^ i) % 2 ^ w ≡ 2 ^ i
+shift-one w i h = let l : 2 ^ i < 2 ^ w = pow-lt h in ap (λ (n : ℕ). n % 2 ^ w) (omega arith) ∙ mod-eq-of-lt l
+
+-- ---- the number of marked variables is the number of ones
+
+digit-value : (m : ℕ) → cond (eqb (m % 2) 1) 1 0 ≡ m % 2
+digit-value m = cases (digit m)
+  where
+    at : (d : ℕ) → m % 2 ≡ d → cond (eqb d 1) 1 0 ≡ d → cond (eqb (m % 2) 1) 1 0 ≡ m % 2
+    at d p e = rw p e
+
+    cases : (m % 2 ≡ 0) ⊎ (m % 2 ≡ 1) → cond (eqb (m % 2) 1) 1 0 ≡ m % 2
+    cases (inl p) = at 0 p refl
+    cases (inr p) = at 1 p refl
+
+-- counted from the lowest variable in place of the highest
+marked-low : (n m : ℕ) → markedBelow (suc n) m ≡ m % 2 + markedBelow n (m / 2)
+unfolding markedBelow has
+marked-low zero m = ap (λ (d : ℕ). d + 0) (digit-value m)
+marked-low (suc n) m =
+    let ih : cond (has m n) 1 0 + markedBelow n m ≡ m % 2 + markedBelow n (m / 2) = marked-low n m in
+    let d : ℕ = cond (has (m / 2) n) 1 0 in
+    ap (λ (x : ℕ). d + x) ih ∙ omega arith
+
+marked-digits : (n m : ℕ) → m < 2 ^ n → markedBelow n m ≡ ones m
+unfolding markedBelow ones onesIn
+marked-digits zero m h = let z : 0 ≡ m = omega arith in subst (λ (k : ℕ). 0 ≡ ones k) z refl
+marked-digits (suc n) m h =
+    let e : 2 ^ suc n ≡ 2 ^ n * 2 = pow-suc 2 n in
+    marked-low n m ∙ ap (λ (x : ℕ). m % 2 + x) (marked-digits n (m / 2) (omega arith)) ∙ sym (ones-step m)
+
+pub marked-ones : (m : ℕ) → m < 2 ^ width → marked m ≡ ones m
+unfolding marked
+marked-ones m h = marked-digits width m h

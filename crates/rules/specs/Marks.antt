@@ -3,6 +3,7 @@ use Prim.Native.Nat.{ℕ, zero, suc, _+_, _*_, _/_, _%_}
 use mathlib.Core.Bool.{Bool, true, cond, not}
 use lib.Bits.{bitOr}
 use lib.Dec.{T, eqb}
+use Rattle.rules.specs.Limits.{width}
 
 -- the set of no variable
 unfoldable pub none : ℕ
@@ -34,3 +35,11 @@ a ⊆ b = (i : ℕ) → T (has a i) → T (has b i)
 -- A level is the set of marked variables that were read; it is "provisional when some variable read in it is marked".
 unfoldable pub provisional : ℕ → Bool
 provisional level = not (eqb level 0)
+
+-- "`marked` how many variables it marks": how many of the first n, and of all
+unfoldable pub markedBelow : ℕ → ℕ → ℕ
+markedBelow zero set = 0
+markedBelow (suc n) set = cond (has set n) 1 0 + markedBelow n set
+
+unfoldable pub marked : ℕ → ℕ
+marked set = markedBelow width set

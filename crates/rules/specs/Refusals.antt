@@ -1,11 +1,16 @@
--- Document 01: cases J and K, and a case for each refusal that a table can meet.
+-- Document 01: cases J and K, a case for each refusal that a table can meet, and a recipe of 512 rows run and checked.
 use Prim.Native.Nat.{ℕ, zero, suc, _+_, _-_}
 use mathlib.Core.List.{List, [], _∷_, _++_, map}
 use mathlib.Core.Path.{_≡_}
+use mathlib.Core.Bool.{false}
 use lib.ListN.{length, replicate}
 use Rattle.rules.specs.declared.Operator.{Operator}
+use Rattle.rules.specs.Rows.{rowsOf}
+use Rattle.rules.specs.Trees.{Stmt, recipe}
 use Rattle.rules.specs.Values.{operate}
-use Rattle.rules.specs.Answers.{Said, accepted, refused, verdict, judgement, answer}
+use Rattle.rules.specs.Running.{start, run}
+use Rattle.rules.specs.LevelCheck.{walk}
+use Rattle.rules.specs.Answers.{Said, accepted, refused, verdict, judgement, answer, reached, termsOf}
 use Rattle.rules.specs.Cases.{Quad, wordsOf, memoryOf}
 
 -- J. "4,294,967,295 + 1 = 0; 0 - 1 = 4,294,967,295; 5 / 0 = 0."
@@ -96,3 +101,13 @@ CaseK =
     (map (λ (j : Judgement). judgement (j .words)) judgements ≡ map (λ (j : Judgement). j .said) judgements)
     × (traced 16384 ≡ verdict 0 0)
     × (traced 16385 ≡ refused 6 0)
+
+-- A recipe of 512 rows, with v0 = 5 marked: it is run, and walked by the level check.
+unfoldable pub longest : Stmt
+longest = recipe (rowsOf (wordsOf (long 255)))
+
+abbrev pub Longest : Type 0
+Longest =
+    (reached (run (termsOf 0) 300 (start longest (memoryOf (5 ∷ [])) 1))
+    ≡ record { said = verdict 0 0; steps = 256; records = []; memory = memoryOf []; marks = 0 })
+    × (walk longest false 1 ≡ record { marks = 0; failing = [] })
