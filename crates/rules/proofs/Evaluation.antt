@@ -1,14 +1,13 @@
 -- The worked runs of document 01, proved by evaluating the rules.
 use mathlib.Core.Path.{refl}
 use Rattle.rules.specs.Rows.{kindOf, rolesOf, isStatement, isExpression, isUnknown, rowOf, rowsOf, absent, rowAt}
-use Rattle.rules.specs.Trees.{operatorOf, exprNode, stmtNode, exprIn, exprAt, stmtIn, stmtAt, recipe, height, nesting, loopNesting}
+use Rattle.rules.specs.Trees.{operatorOf, exprNode, stmtNode, exprIn, exprAt, stmtIn, stmtAt, recipe}
 use Rattle.rules.specs.Judging.{wrongCount, wrongWord, wrongWords, wrongChild, wrongChildren, childOf, children, places, wrongParents, tooDeep, lowest, orElse, judgeRows, judge, judgeTrace}
 use Rattle.rules.specs.Marks.{none, has, put, only, union, provisional}
-use Rattle.rules.specs.Values.{operate, value, holds, level, mayAssign}
-use Rattle.rules.specs.Running.{start, context, guarded, push, skipped, assigned, opened, branched, turned, closedMarks, popped, closed, recorded, isDenied, outputAttempt, begin, attempt, outcome, atBudget, follow, run}
-use Rattle.rules.specs.LevelRules.{under}
-use Rattle.rules.specs.LevelCheck.{walked, joined, afterwards, united, rested, added, rounds, walk, lowestOf, checkedOf}
-use Rattle.rules.specs.Answers.{saidOfJudge, saidOfRun, saidOfCheck, judgement, reached, answered, termsOf, answer, traceWordsOf, traceAfter, advised, advice}
+use Rattle.rules.specs.Values.{operate, holds}
+use Rattle.rules.specs.Running.{start, guarded, skipped, assigned, opened, branched, turned, closedMarks, popped, closed, recorded, isDenied, outputAttempt, begin, attempt, atBudget, follow, run}
+use Rattle.rules.specs.LevelCheck.{rested, added, rounds, lowestOf, checkedOf}
+use Rattle.rules.specs.Answers.{judgement, answered, termsOf, answer, traceWordsOf, traceAfter, advised, advice}
 use Rattle.rules.specs.Cases.{wordsOf, memoryOf, answerTo, resultOf, recordless}
 use Rattle.rules.specs.Starred.{starred, Starred}
 use Rattle.rules.specs.Further.{further, Further}
@@ -16,7 +15,7 @@ use Rattle.rules.specs.Refusals.{grown, judgements, traced, longest, Cas
 
 -- Whoever unfolds this unfolds every rule.
 rules : Unit {0}
-unfolding kindOf rolesOf isStatement isExpression isUnknown rowOf rowsOf absent rowAt operatorOf exprNode stmtNode exprIn exprAt stmtIn stmtAt recipe height nesting loopNesting wrongCount wrongWord wrongWords wrongChild wrongChildren childOf children places wrongParents tooDeep lowest orElse judgeRows judge judgeTrace none has put only union provisional operate value holds level mayAssign start context guarded push skipped assigned opened branched turned closedMarks popped closed recorded isDenied outputAttempt begin attempt outcome atBudget follow run under walked joined afterwards united rested added rounds walk lowestOf checkedOf saidOfJudge saidOfRun saidOfCheck judgement reached answered termsOf answer traceWordsOf traceAfter advised advice wordsOf memoryOf answerTo resultOf recordless
+unfolding kindOf rolesOf isStatement isExpression isUnknown rowOf rowsOf absent rowAt operatorOf exprNode stmtNode exprIn exprAt stmtIn stmtAt recipe wrongCount wrongWord wrongWords wrongChild wrongChildren childOf children places wrongParents tooDeep lowest orElse judgeRows judge judgeTrace none has put only union provisional operate holds start guarded skipped assigned opened branched turned closedMarks popped closed recorded isDenied outputAttempt begin attempt atBudget follow run rested added rounds lowestOf checkedOf judgement answered termsOf answer traceWordsOf traceAfter advised advice wordsOf memoryOf answerTo resultOf recordless
 rules = tt
 
 pub starred-met : Starred

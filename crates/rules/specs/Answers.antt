@@ -23,20 +23,20 @@ pub data Said : Type 0 where
   fail : ℕ → Said
 
 -- "Where the answer is an enum, there is a definition that gives this paper's number and values for each of its cases."
-unfoldable pub saidOfJudge : Judged → Said
+abbrev pub saidOfJudge : Judged → Said
 saidOfJudge Judged.Accepted = accepted
 saidOfJudge (Judged.Refused number row) = refused number row
 
 -- "budget used up gives verdict 2; else a denied output gives 1; else an output without room gives 3"; "A finished run is
 -- verdict 0"; "Place is the output's row for verdicts 1 and 3, and 0 otherwise."
-unfoldable pub saidOfRun : Ended → Said
+abbrev pub saidOfRun : Ended → Said
 saidOfRun Ended.Done = verdict 0 0
 saidOfRun (Ended.Stopped row) = verdict 1 row
 saidOfRun Ended.Spent = verdict 2 0
 saidOfRun (Ended.NoRoom row) = verdict 3 row
 saidOfRun (Ended.Refused number row) = refused number row
 
-unfoldable pub saidOfCheck : Checked → Said
+abbrev pub saidOfCheck : Checked → Said
 saidOfCheck Checked.Pass = pass
 saidOfCheck (Checked.Fail row) = fail row
 saidOfCheck (Checked.Refused number row) = refused number row
@@ -53,7 +53,7 @@ pub record Whole : Type 0 where
   pub memory : List ℕ
   pub marks : ℕ
 
-unfoldable pub reached : Outcome → Whole
+abbrev pub reached : Outcome → Whole
 reached o = record {
   said = saidOfRun (o .ended);
   steps = o .state .steps;

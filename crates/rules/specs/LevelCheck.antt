@@ -14,18 +14,18 @@ pub record Walked : Type 0 where
   pub marks : ℕ
   pub failing : List ℕ
 
-unfoldable pub walked : ℕ → List ℕ → Walked
+abbrev pub walked : ℕ → List ℕ → Walked
 walked marks failing = record { marks = marks; failing = failing }
 
 -- a sequence: next walks on from the marks that the first statement left
-unfoldable pub joined : Walked → Walked → Walked
+abbrev pub joined : Walked → Walked → Walked
 joined first second = walked (second .marks) (first .failing ++ second .failing)
 
-unfoldable pub afterwards : Walked → (ℕ → Walked) → Walked
+abbrev pub afterwards : Walked → (ℕ → Walked) → Walked
 afterwards first next = joined first (next (first .marks))
 
 -- "the results are united"
-unfoldable pub united : Walked → Walked → Walked
+abbrev pub united : Walked → Walked → Walked
 united then else = walked (union (then .marks) (else .marks)) (then .failing ++ else .failing)
 
 -- whether the walk of the body added nothing; then it started from the final set, and its failing rows are the loop's
@@ -44,7 +44,7 @@ rounds zero body marks = walked marks []
 rounds (suc n) body marks = added (rounds n body) marks (body marks)
 
 -- Each walk of a loop's body but the last adds a variable, so one walk more than there are variables is enough.
-unfoldable pub walk : Stmt → Bool → ℕ → Walked
+abbrev pub walk : Stmt → Bool → ℕ → Walked
 walk skip context marks = walked marks []
 walk (assign v e) context marks = walked (put v (under e context marks) marks) []
 walk (sequence s t) context marks = afterwards (walk s context marks) (walk t context)

@@ -8,7 +8,7 @@ use Rattle.rules.specs.Trees.{Expr, Stmt, skip, assign, sequence, if, wh
 use Rattle.rules.specs.Values.{level}
 
 -- the expression is provisional under these marks, or the context is
-unfoldable pub under : Expr → Bool → ℕ → Bool
+abbrev pub under : Expr → Bool → ℕ → Bool
 under e context marks = provisional (level marks e) || context
 
 -- A choice of mark sets, one for each loop of the statement.
@@ -23,7 +23,7 @@ Choice (output c e row) = Unit {0}
 -- What the statement makes of the incoming marks, in a context, where each loop's result is the set chosen for it.
 -- "Assign marks its variable if expression or context is provisional, else unmarks it. For if, both branches start alike,
 -- their context provisional if test or outer context is; the results are united."
-unfoldable pub result : (s : Stmt) → Choice s → Bool → ℕ → ℕ
+abbrev pub result : (s : Stmt) → Choice s → Bool → ℕ → ℕ
 result skip choice context marks = marks
 result (assign v e) choice context marks = put v (under e context marks) marks
 result (sequence s t) choice context marks = result t (choice .1) context (result s (choice .0) context marks)
@@ -57,7 +57,7 @@ Within (output c e row) a b = Unit {0}
 
 -- "An output changes no mark and fails if it is on channel 0 and its expression or context is provisional; inside loops the
 -- final sets count": the failing rows, in reading order.
-unfoldable pub failing : (s : Stmt) → Choice s → Bool → ℕ → List ℕ
+abbrev pub failing : (s : Stmt) → Choice s → Bool → ℕ → List ℕ
 failing skip choice context marks = []
 failing (assign v e) choice context marks = []
 failing (sequence s t) choice context marks =

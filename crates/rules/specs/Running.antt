@@ -44,7 +44,7 @@ start recipe memory marks = record {
 }
 
 -- "The run's context is provisional when the pile is not empty."
-unfoldable pub context : List ℕ → Bool
+abbrev pub context : List ℕ → Bool
 context [] = false
 context (top ∷ below) = true
 
@@ -53,7 +53,7 @@ unfoldable pub guarded : Expr → State → Bool
 guarded e σ = provisional (level (σ .marks) e) || context (σ .pile)
 
 -- "If the test or context is provisional, push the set"
-unfoldable pub push : Bool → ℕ → List ℕ → List ℕ
+abbrev pub push : Bool → ℕ → List ℕ → List ℕ
 push true pushed pile = pushed ∷ pile
 push false pushed pile = pile
 
@@ -175,7 +175,7 @@ pub record Outcome : Type 0 where
   pub ended : Ended
   pub state : State
 
-unfoldable pub outcome : Ended → State → Outcome
+abbrev pub outcome : Ended → State → Outcome
 outcome ended σ = record { ended = ended; state = σ }
 
 -- "A finished run is verdict 0, also when its last step used the budget."

@@ -79,14 +79,14 @@ unfoldable pub recipe : List Row → Stmt
 recipe rows = stmtAt rows (length rows - 1)
 
 -- "Height of a constant or variable is 1; of a binary row, 1 more than its taller side."
-unfoldable pub height : Expr → ℕ
+abbrev pub height : Expr → ℕ
 height (constant c) = 1
 height (variable v) = 1
 height (binary o a b) = max (height a) (height b) + 1
 
 -- "Nesting of kinds 0, 1 and 5 is 0; a sequence takes the larger of its two; if and while add 1 to their largest
 -- statement child."
-unfoldable pub nesting : Stmt → ℕ
+abbrev pub nesting : Stmt → ℕ
 nesting skip = 0
 nesting (assign v e) = 0
 nesting (sequence s t) = max (nesting s) (nesting t)
@@ -95,7 +95,7 @@ nesting (while e s) = nesting s + 1
 nesting (output c e row) = 0
 
 -- "Loop nesting is counted alike with only while adding 1."
-unfoldable pub loopNesting : Stmt → ℕ
+abbrev pub loopNesting : Stmt → ℕ
 loopNesting skip = 0
 loopNesting (assign v e) = 0
 loopNesting (sequence s t) = max (loopNesting s) (loopNesting t)
