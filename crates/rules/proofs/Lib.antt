@@ -2,5 +2,7 @@
 pub mod MarkLaws
 pub mod JudgeLaws
 pub mod TreeLaws
+pub mod ValueLaws
 pub mod RunLaws
+pub mod LevelLaws
 pub mod Evaluation

@@ -140,7 +140,24 @@ pub has-provisional : (m i : ℕ) → has m i ≡ true → provisional m ≡ tru
 unfolding provisional none
 has-provisional m i h = ap not (ne-eqb m 0 (λ e. true≢false (sym h ∙ ap (λ (n : ℕ). has n i) e ∙ has-none i)))
 
+pub settled-of-none : (m : ℕ) → ((i : ℕ) → has m i ≡ false) → provisional m ≡ false
+settled-of-none m empty = ap provisional (marks-ext m none (λ i. empty i ∙ sym (has-none i))) ∙ provisional-none
+
 -- ---- unions
+
+pub settled-union : (a b : ℕ) → provisional (union a b) ≡ false → (provisional a ≡ false) × (provisional b ≡ false)
+settled-union a b h = (
+  settled-of-none a (λ i. left (has a i) (has b i) (sym (has-union a b i) ∙ settled-has (union a b) i h)),
+  settled-of-none b (λ i. right (has a i) (has b i) (sym (has-union a b i) ∙ settled-has (union a b) i h)),
+)
+  where
+    left : (x y : Bool) → (x || y) ≡ false → x ≡ false
+    left true y e = e
+    left false y e = refl
+
+    right : (x y : Bool) → (x || y) ≡ false → y ≡ false
+    right true y e = absurd (true≢false e)
+    right false y e = e
 
 pub union-none-left : (m : ℕ) → union none m ≡ m
 unfolding union none
@@ -179,6 +196,14 @@ put-lt (suc w) (suc i) bit m hi hm =
 pub only-lt : (w i : ℕ) → i < w → only i < 2 ^ w
 unfolding only
 only-lt w i hi = put-lt w i true none hi (none-lt w)
+
+pub has-above : (w m i : ℕ) → m < 2 ^ w → w ≤ i → has m i ≡ false
+unfolding has none
+has-above zero m i small h = let z : m ≡ 0 = omega arith in ap (λ (n : ℕ). has n i) z ∙ has-none i
+has-above (suc w) m zero small h = absurd (omega arith)
+has-above (suc w) m (suc i) small h =
+    let e : 2 ^ suc w ≡ 2 ^ w * 2 = pow-suc 2 w in
+    has-above w (m / 2) i (omega arith) (omega arith)
 
 -- ---- containment
 
@@ -220,6 +245,19 @@ union-least a b c f g i h = either (has a i) (has b i) (f i) (g i) (subst T (has
     either : (x y : Bool) → (T x → T (has c i)) → (T y → T (has c i)) → T (x || y) → T (has c i)
     either true y f g t = f tt
     either false y f g t = g t
+
+pub provisional-mono : (a b : ℕ) → a ⊆ b → provisional a ≡ true → provisional b ≡ true
+provisional-mono a b sub h = by (provisional b) refl
+  where
+    false-of : (x y : Bool) → (T x → T y) → y ≡ false → x ≡ false
+    false-of true true f e = e
+    false-of true false f e = absurd (f tt)
+    false-of false y f e = refl
+
+    by : (c : Bool) → provisional b ≡ c → c ≡ true
+    by true e = refl
+    by false e =
+        sym (settled-of-none a (λ i. false-of (has a i) (has b i) (sub i) (settled-has b i e))) ∙ h
 
 -- ---- the bridge to the machine's bit operations
 
