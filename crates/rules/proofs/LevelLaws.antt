@@ -1,18 +1,16 @@
 -- What the rounds of a loop give in the level check: the least set that contains the incoming one and what the body makes
 -- of it. A loop's body adds only variables that there are, so there are rounds enough.
-use Prim.Native.Nat.{ℕ, zero, suc, _+_, _≤_, _<_, _/_, _^_}
-use native.Mathlib.Nat.{pow-suc}
+use Prim.Native.Nat.{ℕ, zero, suc, _+_, _≤_, _<_, _^_}
 use native.Mathlib.Omega.{arith}
 use mathlib.Core.Bool.{Bool, true, false, cond, _||_}
-use mathlib.Core.List.{List}
 use mathlib.Core.Logic.{_≢_}
-use mathlib.Core.Path.{_≡_, refl, sym, ap, _∙_, subst}
+use mathlib.Core.Path.{_≡_, refl, sym, subst}
 use lib.Dec.{T, eqb, ltb}
 use borrow.Author.Tests.{eqb-true, eqb-false, ltb-true, ltb-false}
 use Rattle.rules.specs.Limits.{width}
 use Rattle.rules.specs.Marks.{has, union, _⊆_}
 use Rattle.rules.specs.LevelCheck.{Walked, rested, added, rounds}
-use Rattle.rules.proofs.MarkLaws.{has-none, has-union, has-above, marks-ext, subset-refl, subset-union-left, subset-union-right, union-least}
+use Rattle.rules.proofs.MarkLaws.{has-union, has-above, marks-ext, subset-refl, subset-union-left, subset-union-right, union-least}
 
 -- ---- how many of the first n variables are not in a set
 

@@ -4,5 +4,6 @@ pub mod JudgeLaws
 pub mod TreeLaws
 pub mod ValueLaws
 pub mod RunLaws
+pub mod RunInvariants
 pub mod LevelLaws
 pub mod Evaluation

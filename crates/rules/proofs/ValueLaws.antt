@@ -1,7 +1,7 @@
 -- Laws of an expression's value and level, and of what a statement may assign.
-use Prim.Native.Nat.{ℕ, zero, suc, _+_, _≤_, _<_, _^_}
+use Prim.Native.Nat.{ℕ, zero, suc, _≤_, _<_, _^_}
 use native.Mathlib.Omega.{arith}
-use mathlib.Core.Bool.{Bool, true, false, cond, not, _||_, true≢false}
+use mathlib.Core.Bool.{Bool, true, false, cond, not, true≢false}
 use mathlib.Core.List.{List}
 use mathlib.Core.Path.{_≡_, refl, sym, ap, ap₂, _∙_, subst}
 use lib.Dec.{T, eqb}
@@ -14,7 +14,7 @@ use Rattle.rules.specs.Rows.{rolesOf, rowAt}
 use Rattle.rules.specs.Trees.{Expr, constant, variable, binary, Stmt, stmtNode, exprAt, stmtAt}
 use Rattle.rules.specs.Values.{operate, value, holds, level, mayAssign}
 use Rattle.rules.specs.Sound.{SoundRow, Sound}
-use Rattle.rules.proofs.MarkLaws.{has-none, has-union, has-only-same, marks-ext, provisional-none, settled-has, settled-union, has-provisional, provisional-mono, none-subset, subset-refl, subset-union-left, subset-union-right, union-least, none-lt, only-lt, union-lt}
+use Rattle.rules.proofs.MarkLaws.{has-only-same, settled-union, has-provisional, provisional-mono, none-subset, subset-refl, subset-union-left, subset-union-right, union-least, none-lt, only-lt, union-lt}
 use Rattle.rules.proofs.TreeLaws.{stmt-law}
 
 -- ---- two memories that are equal in every settled variable give a settled expression one value
