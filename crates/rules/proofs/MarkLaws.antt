@@ -3,10 +3,10 @@
 use Prim.Native.Nat.{ℕ, zero, suc, _+_, _-_, _*_, _/_, _%_, _^_, _≤_, _<_, min, max}
 use native.Mathlib.Nat.{pow-suc, mod-eq-of-lt}
 use native.Mathlib.Omega.{arith}
-use mathlib.Core.Bool.{Bool, true, false, cond, not, _||_, true≢false}
+use mathlib.Core.Bool.{Bool, true, false, cond, not, _||_, or-true, or-false, or-assoc, true≢false}
 use mathlib.Core.Path.{_≡_, refl, sym, ap, ap₂, _∙_, subst}
 use mathlib.Core.Logic.{_≢_, _⊎_, inl, inr}
-use lib.Bits.{bitAnd, bitOr, and-step, or-step, and-zero-r, or-zero-r, or-comm, or-lt, and-mask}
+use lib.Bits.{bitAnd, bitOr, and-step, or-step, and-zero-r, or-zero-r, or-comm, or-self, or-lt, and-mask}
 use lib.Dec.{T, eqb}
 use lib.Pow.{pow-lt, pow-pos}
 use borrow.Author.Tests.{eqb-true, eqb-false, ne-eqb, not-false}
@@ -145,19 +145,19 @@ settled-of-none m empty = ap provisional (marks-ext m none (λ i. empty i ∙ sy
 
 -- ---- unions
 
+-- what is not in a union is in neither set
+pub not-in-union : (a b i : ℕ) → has (union a b) i ≡ false → (has a i ≡ false) × (has b i ≡ false)
+not-in-union a b i e = neither (has a i) (has b i) (sym (has-union a b i) ∙ e)
+  where
+    neither : (x y : Bool) → (x || y) ≡ false → (x ≡ false) × (y ≡ false)
+    neither true y e = absurd (true≢false e)
+    neither false y e = (refl, e)
+
 pub settled-union : (a b : ℕ) → provisional (union a b) ≡ false → (provisional a ≡ false) × (provisional b ≡ false)
 settled-union a b h = (
-  settled-of-none a (λ i. left (has a i) (has b i) (sym (has-union a b i) ∙ settled-has (union a b) i h)),
-  settled-of-none b (λ i. right (has a i) (has b i) (sym (has-union a b i) ∙ settled-has (union a b) i h)),
+  settled-of-none a (λ i. not-in-union a b i (settled-has (union a b) i h) .0),
+  settled-of-none b (λ i. not-in-union a b i (settled-has (union a b) i h) .1),
 )
-  where
-    left : (x y : Bool) → (x || y) ≡ false → x ≡ false
-    left true y e = e
-    left false y e = refl
-
-    right : (x y : Bool) → (x || y) ≡ false → y ≡ false
-    right true y e = absurd (true≢false e)
-    right false y e = e
 
 pub union-none-left : (m : ℕ) → union none m ≡ m
 unfolding union none
@@ -170,6 +170,30 @@ union-none-right m = or-zero-r m
 pub union-comm : (a b : ℕ) → union a b ≡ union b a
 unfolding union
 union-comm a b = or-comm a b
+
+pub union-self : (a : ℕ) → union a a ≡ a
+unfolding union
+union-self a = or-self a
+
+pub union-assoc : (a b c : ℕ) → union (union a b) c ≡ union a (union b c)
+union-assoc a b c =
+    marks-ext (union (union a b) c) (union a (union b c))
+    (λ i.
+    has-union (union a b) c i ∙ ap (λ (x : Bool). x || has c i) (has-union a b i) ∙ or-assoc (has a i) (has b i) (has c i)
+    ∙ ap (λ (x : Bool). has a i || x) (sym (has-union b c i)) ∙ sym (has-union a (union b c) i))
+
+-- to mark a variable is to add the set of it
+pub put-union : (v m : ℕ) → put v true m ≡ union m (only v)
+put-union v m = marks-ext (put v true m) (union m (only v)) (λ i. by i (eqb i v) refl)
+  where
+    by : (i : ℕ) (b : Bool) → eqb i v ≡ b → has (put v true m) i ≡ has (union m (only v)) i
+    by i true e =
+        subst (λ (j : ℕ). has (put v true m) j ≡ has (union m (only v)) j) (sym (eqb-true i v e))
+        (has-put-same v true m ∙ sym (has-union m (only v) v ∙ ap (λ (x : Bool). has m v || x) (has-only-same v) ∙ or-true (has m v)))
+    by i false e =
+        has-put-other v i true m (eqb-false i v e)
+        ∙ sym
+        (has-union m (only v) i ∙ ap (λ (x : Bool). has m i || x) (has-only-other v i (eqb-false i v e)) ∙ or-false (has m i))
 
 -- ---- every set of the rules is below 2 ^ w where the variables are below w
 

@@ -1,0 +1,2 @@
+-- The proofs of the demands.
+pub mod Region

@@ -1,0 +1,3 @@
+-- The demands, and the words that they use.
+pub mod Stations
+pub mod Demands

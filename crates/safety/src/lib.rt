@@ -1,0 +1,1 @@
+// The demands as theorems over the rules: see specs/Demands.antt. There is no code here.
