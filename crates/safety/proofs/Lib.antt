@@ -1,2 +1,3 @@
 -- The proofs of the demands.
 pub mod Region
+pub mod TwoRuns
