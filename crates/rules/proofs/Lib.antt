@@ -6,4 +6,5 @@ pub mod ValueLaws
 pub mod RunLaws
 pub mod RunInvariants
 pub mod LevelLaws
+pub mod AnswerLaws
 pub mod Evaluation

@@ -12,6 +12,7 @@ use Rattle.rules.specs.Marks.{none, put, union, provisional}
 use Rattle.rules.specs.Trees.{Expr, Stmt, skip, assign, sequence, if, while, output}
 use Rattle.rules.specs.Values.{value, holds, level, mayAssign}
 use Rattle.rules.specs.Running.{Item, statement, close, Record, State, Terms, context, guarded, push, skipped, assigned, opened, branched, turned, closedMarks, popped, closed, recorded, Attempt, finished, denied, roomless, taken, isDenied, outputAttempt, begin, attempt, Outcome, atBudget, follow, run}
+use Rattle.rules.specs.Answers.{refused, saidOfRun}
 use Rattle.rules.proofs.RunLaws.{state}
 
 -- the fact holds of the state after the step, if the step was taken
@@ -237,3 +238,40 @@ module _ (terms : Terms) where
   pub run-done-idle : (budget : ℕ) (σ : State) → (run terms budget σ .ended ≡ Ended.Done) ↔ (run terms budget σ .state .pending ≡ [])
   run-done-idle budget σ =
       done-idle (run terms budget σ) (told budget (σ .pending) (σ .memory) (σ .marks) (σ .pile) (σ .records) (σ .steps))
+
+-- ---- a run that is under way is never refused
+
+abbrev Verdict : Ended → Type 0
+Verdict Ended.Done = Unit {0}
+Verdict (Ended.Stopped row) = Unit {0}
+Verdict Ended.Spent = Unit {0}
+Verdict (Ended.NoRoom row) = Unit {0}
+Verdict (Ended.Refused number row) = ⊥
+
+module _ (terms : Terms) where
+  follow-verdict : (onward : State → Outcome) → ((σ : State) → Verdict (onward σ .ended)) → (σ : State) (a : Attempt) → Verdict (follow onward σ a .ended)
+  unfolding follow
+  follow-verdict onward later σ finished = tt
+  follow-verdict onward later σ (denied row) = tt
+  follow-verdict onward later σ (roomless row) = tt
+  follow-verdict onward later σ (taken next) = later next
+
+  budget-verdict : (k : List Item) → Verdict (atBudget k)
+  unfolding atBudget
+  budget-verdict [] = tt
+  budget-verdict (item ∷ k) = tt
+
+  run-verdict : (budget : ℕ) (σ : State) → Verdict (run terms budget σ .ended)
+  unfolding run
+  run-verdict zero σ = budget-verdict (σ .pending)
+  run-verdict (suc budget) σ = follow-verdict (run terms budget) (λ next. run-verdict budget next) σ (attempt terms (σ .pending) σ)
+
+  unrefused : (ended : Ended) → Verdict ended → (number row : ℕ) → saidOfRun ended ≡ refused number row → ⊥
+  unrefused Ended.Done v number row e = let z : _≡_ {A = ℕ} 0 1 = cc in omega arith
+  unrefused (Ended.Stopped place) v number row e = let z : _≡_ {A = ℕ} 0 1 = cc in omega arith
+  unrefused Ended.Spent v number row e = let z : _≡_ {A = ℕ} 0 1 = cc in omega arith
+  unrefused (Ended.NoRoom place) v number row e = let z : _≡_ {A = ℕ} 0 1 = cc in omega arith
+  unrefused (Ended.Refused number′ row′) v number row e = v
+
+  pub run-unrefused : (budget : ℕ) (σ : State) (number row : ℕ) → saidOfRun (run terms budget σ .ended) ≡ refused number row → ⊥
+  run-unrefused budget σ number row e = unrefused (run terms budget σ .ended) (run-verdict budget σ) number row e

@@ -1,0 +1,119 @@
+-- Laws of the whole answers: a call either runs or is refused, and what it answers then; each answer enum is told apart by
+-- what it says.
+use Prim.Native.Nat.{ℕ}
+use mathlib.Core.Bool.{false, cond}
+use mathlib.Core.List.{List, [], _∷_}
+use mathlib.Core.Path.{_≡_, refl, sym, ap, _∙_}
+use lib.Dec.{eqb}
+use Rattle.rules.specs.declared.Judged.{Judged}
+use Rattle.rules.specs.declared.Ended.{Ended}
+use Rattle.rules.specs.declared.Checked.{Checked}
+use Rattle.rules.specs.Rows.{rowsOf}
+use Rattle.rules.specs.Trees.{recipe}
+use Rattle.rules.specs.Judging.{orElse, judge, judgeTrace}
+use Rattle.rules.specs.Running.{statement, start}
+use Rattle.rules.specs.LevelCheck.{walk, checkedOf}
+use Rattle.rules.specs.Answers.{Said, accepted, refused, verdict, pass, fail, saidOfJudge, saidOfRun, saidOfCheck, Whole, answered, termsOf, answer, traceWordsOf, traceAfter, advised, advice}
+use Rattle.rules.proofs.RunLaws.{state, final}
+use Rattle.rules.proofs.JudgeLaws.{orElse-accepted}
+
+-- the state from which a recipe starts
+pub start-law : (words : List ℕ) (m : List ℕ) (l : ℕ) → start (recipe (rowsOf words)) m l ≡ state (statement (recipe (rowsOf words)) ∷ []) m l [] [] 0
+unfolding start
+start-law words m l = refl
+
+-- what a refused run answers
+abbrev pub turnedAway : ℕ → ℕ → List ℕ → ℕ → Whole
+turnedAway number row memory marks = record { said = refused number row; steps = 0; records = []; memory = memory; marks = marks }
+
+-- A call runs, on an accepted table, or is refused.
+pub data Call (words m : List ℕ) (l b w : ℕ) : Type 0 where
+  ran :
+      judge words ≡ Judged.Accepted
+      → answer words m l b w ≡ final (termsOf w) b (state (statement (recipe (rowsOf words)) ∷ []) m l [] [] 0) → Call words m l b w
+  away : (number row : ℕ) → answer words m l b w ≡ turnedAway number row m l → Call words m l b w
+
+pub call : (words m : List ℕ) (l b w : ℕ) → Call words m l b w
+unfolding answer answered start
+call words m l b w = by (orElse (judge words) (judgeTrace w)) refl
+  where
+    by : (j : Judged) → orElse (judge words) (judgeTrace w) ≡ j → Call words m l b w
+    by Judged.Accepted e =
+        ran (orElse-accepted (judge words) (judgeTrace w) e .0)
+        (ap (λ (j : Judged). answered j (termsOf w) b (start (recipe (rowsOf words)) m l)) e)
+    by (Judged.Refused number row) e =
+        away number row (ap (λ (j : Judged). answered j (termsOf w) b (start (recipe (rowsOf words)) m l)) e)
+
+-- with no record the trace is as it was lent
+pub trace-kept : (trace : List ℕ) → traceAfter [] trace ≡ trace
+unfolding traceAfter traceWordsOf
+trace-kept trace = refl
+
+-- the level check of an accepted table, and of one that is refused
+pub advice-accepted :
+    (words : List ℕ) (marks : ℕ) → judge words ≡ Judged.Accepted
+    → advice words marks
+    ≡ record {
+      said = saidOfCheck (checkedOf (walk (recipe (rowsOf words)) false marks .failing));
+      marks = walk (recipe (rowsOf words)) false marks .marks;
+    }
+unfolding advice advised
+advice-accepted words marks e = ap (λ (j : Judged). advised j marks (walk (recipe (rowsOf words)) false marks)) e
+
+pub advice-refused :
+    (words : List ℕ) (marks number row : ℕ) → judge words ≡ Judged.Refused number row
+    → advice words marks ≡ record { said = refused number row; marks = marks }
+unfolding advice advised
+advice-refused words marks number row e = ap (λ (j : Judged). advised j marks (walk (recipe (rowsOf words)) false marks)) e
+
+-- ---- two answers that say the same are the same: each is read back from what it says
+
+judgedBack : Said → Judged
+judgedBack accepted = Judged.Accepted
+judgedBack (refused number row) = Judged.Refused number row
+judgedBack (verdict number place) = Judged.Accepted
+judgedBack pass = Judged.Accepted
+judgedBack (fail row) = Judged.Accepted
+
+judged-back : (a : Judged) → judgedBack (saidOfJudge a) ≡ a
+unfolding judgedBack
+judged-back Judged.Accepted = refl
+judged-back (Judged.Refused number row) = refl
+
+pub judged-unique : (a b : Judged) → saidOfJudge a ≡ saidOfJudge b → a ≡ b
+judged-unique a b e = sym (judged-back a) ∙ ap judgedBack e ∙ judged-back b
+
+endedBack : Said → Ended
+endedBack accepted = Ended.Done
+endedBack (refused number row) = Ended.Refused number row
+endedBack (verdict number place) =
+    cond (eqb number 0) Ended.Done (cond (eqb number 1) (Ended.Stopped place) (cond (eqb number 2) Ended.Spent (Ended.NoRoom place)))
+endedBack pass = Ended.Done
+endedBack (fail row) = Ended.Done
+
+ended-back : (a : Ended) → endedBack (saidOfRun a) ≡ a
+unfolding endedBack
+ended-back Ended.Done = refl
+ended-back (Ended.Stopped row) = refl
+ended-back Ended.Spent = refl
+ended-back (Ended.NoRoom row) = refl
+ended-back (Ended.Refused number row) = refl
+
+pub ended-unique : (a b : Ended) → saidOfRun a ≡ saidOfRun b → a ≡ b
+ended-unique a b e = sym (ended-back a) ∙ ap endedBack e ∙ ended-back b
+
+checkedBack : Said → Checked
+checkedBack accepted = Checked.Pass
+checkedBack (refused number row) = Checked.Refused number row
+checkedBack (verdict number place) = Checked.Pass
+checkedBack pass = Checked.Pass
+checkedBack (fail row) = Checked.Fail row
+
+checked-back : (a : Checked) → checkedBack (saidOfCheck a) ≡ a
+unfolding checkedBack
+checked-back Checked.Pass = refl
+checked-back (Checked.Fail row) = refl
+checked-back (Checked.Refused number row) = refl
+
+pub checked-unique : (a b : Checked) → saidOfCheck a ≡ saidOfCheck b → a ≡ b
+checked-unique a b e = sym (checked-back a) ∙ ap checkedBack e ∙ checked-back b
