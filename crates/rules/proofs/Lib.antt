@@ -5,6 +5,7 @@ pub mod TreeLaws
 pub mod ValueLaws
 pub mod RunLaws
 pub mod RunInvariants
+pub mod PlainLaws
 pub mod LevelLaws
 pub mod AnswerLaws
 pub mod Evaluation

@@ -2,3 +2,5 @@
 pub mod Region
 pub mod TwoRuns
 pub mod Demand1
+pub mod Demand3
+pub mod Transparent
