@@ -6,7 +6,7 @@ use native.Mathlib.Omega.{arith}
 use mathlib.Core.Bool.{Bool, true, false, cond, not, _||_, or-true, or-false, or-assoc, true≢false}
 use mathlib.Core.Path.{_≡_, refl, sym, ap, ap₂, _∙_, subst}
 use mathlib.Core.Logic.{_≢_, _⊎_, inl, inr}
-use lib.Bits.{bitAnd, bitOr, and-step, or-step, and-zero-r, or-zero-r, or-comm, or-self, or-lt, and-mask}
+use lib.Bits.{bitAnd, bitOr, and-step, or-step, and-zero-r, or-zero-r, or-comm, or-self, or-lt, or-add-and, and-le-r, and-mask}
 use lib.Dec.{T, eqb}
 use lib.Pow.{pow-lt, pow-pos}
 use borrow.Author.Tests.{eqb-true, eqb-false, ne-eqb, not-false}
@@ -205,6 +205,16 @@ pub union-lt : (w a b : ℕ) → a < 2 ^ w → b < 2 ^ w → union a b < 2 ^ w
 unfolding union
 union-lt w a b ha hb = or-lt w a b ha hb
 
+pub union-lt-left : (n a b : ℕ) → union a b < n → a < n
+unfolding union
+union-lt-left n a b h =
+    let e : bitOr a b + bitAnd a b ≡ a + b = or-add-and a b in
+    let l : bitAnd a b ≤ b = and-le-r a b in
+    omega arith
+
+pub union-lt-right : (n a b : ℕ) → union a b < n → b < n
+union-lt-right n a b h = union-lt-left n b a (subst (λ (x : ℕ). x < n) (union-comm a b) h)
+
 pub put-lt : (w i : ℕ) (bit : Bool) (m : ℕ) → i < w → m < 2 ^ w → put i bit m < 2 ^ w
 unfolding put
 put-lt zero i bit m hi hm = absurd (omega arith)
@@ -269,6 +279,30 @@ union-least a b c f g i h = either (has a i) (has b i) (f i) (g i) (subst T (has
     either : (x y : Bool) → (T x → T (has c i)) → (T y → T (has c i)) → T (x || y) → T (has c i)
     either true y f g t = f tt
     either false y f g t = g t
+
+pub union-mono : (a b c d : ℕ) → a ⊆ c → b ⊆ d → union a b ⊆ union c d
+union-mono a b c d f g =
+    union-least a b (union c d) (λ i h. subset-union-left c d i (f i h)) (λ i h. subset-union-right c d i (g i h))
+
+pub put-mono : (v : ℕ) (x y : Bool) (a b : ℕ) → (x ≡ true → y ≡ true) → a ⊆ b → put v x a ⊆ put v y b
+put-mono v x y a b rises sub i h = by (eqb i v) refl
+  where
+    rise : (x y : Bool) → (x ≡ true → y ≡ true) → T x → T y
+    rise true y f t = subst T (sym (f refl)) tt
+    rise false y f t = absurd t
+
+    by : (c : Bool) → eqb i v ≡ c → T (has (put v y b) i)
+    by true e =
+        subst (λ (j : ℕ). T (has (put v y b) j)) (sym (eqb-true i v e))
+        (subst T (sym (has-put-same v y b))
+        (rise x y rises (subst T (has-put-same v x a) (subst (λ (j : ℕ). T (has (put v x a) j)) (eqb-true i v e) h))))
+    by false e =
+        subst T (sym (has-put-other v i y b (eqb-false i v e))) (sub i (subst T (has-put-other v i x a (eqb-false i v e)) h))
+
+-- a put adds nothing but its variable
+pub put-adds : (v : ℕ) (x : Bool) (m : ℕ) → put v x m ⊆ union m (only v)
+put-adds v x m i h =
+    subst (λ (n : ℕ). T (has n i)) (put-union v m) (put-mono v x true m m (λ e. refl) (subset-refl m) i h)
 
 pub provisional-mono : (a b : ℕ) → a ⊆ b → provisional a ≡ true → provisional b ≡ true
 provisional-mono a b sub h = by (provisional b) refl

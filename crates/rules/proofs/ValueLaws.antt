@@ -1,5 +1,5 @@
 -- Laws of an expression's value and level, and of what a statement may assign.
-use Prim.Native.Nat.{ℕ, zero, suc, _≤_, _<_, _^_}
+use Prim.Native.Nat.{ℕ, zero, suc, _≤_, _<_, _^_, _-_}
 use native.Mathlib.Omega.{arith}
 use mathlib.Core.Bool.{Bool, true, false, cond, not, true≢false}
 use mathlib.Core.List.{List}
@@ -10,11 +10,14 @@ use Rattle.rules.specs.declared.Kind.{Kind}
 use Rattle.rules.specs.declared.Row.{Row}
 use Rattle.rules.specs.Limits.{width}
 use Rattle.rules.specs.Marks.{none, has, only, union, _⊆_, provisional}
-use Rattle.rules.specs.Rows.{rolesOf, rowAt}
-use Rattle.rules.specs.Trees.{Expr, constant, variable, binary, Stmt, stmtNode, exprAt, stmtAt}
+use Rattle.rules.specs.declared.Judged.{Judged}
+use Rattle.rules.specs.Rows.{rolesOf, rowAt, rowsOf}
+use Rattle.rules.specs.Judging.{judge}
+use Rattle.rules.specs.Trees.{Expr, constant, variable, binary, Stmt, stmtNode, exprAt, stmtAt, recipe}
 use Rattle.rules.specs.Values.{operate, value, holds, level, mayAssign}
 use Rattle.rules.specs.Sound.{SoundRow, Sound}
 use Rattle.rules.proofs.MarkLaws.{has-only-same, settled-union, has-provisional, provisional-mono, none-subset, subset-refl, subset-union-left, subset-union-right, union-least, none-lt, only-lt, union-lt}
+use Rattle.rules.proofs.JudgeLaws.{accepted-sound}
 use Rattle.rules.proofs.TreeLaws.{stmt-law}
 
 -- ---- two memories that are equal in every settled variable give a settled expression one value
@@ -85,3 +88,10 @@ module _ (rows : List Row) (sound : Sound rows) where
 
   pub may-assign-range : (i : ℕ) → i < length rows → mayAssign (stmtAt rows i) < 2 ^ width
   may-assign-range i h = range-below (length rows) i h (omega arith)
+
+pub recipe-range : (words : List ℕ) → judge words ≡ Judged.Accepted → mayAssign (recipe (rowsOf words)) < 2 ^ width
+unfolding recipe
+recipe-range words e =
+    let sound : Sound (rowsOf words) = accepted-sound words e in
+    let some : 0 < length (rowsOf words) = sound .some in
+    may-assign-range (rowsOf words) sound (length (rowsOf words) - 1) (omega arith)

@@ -52,11 +52,11 @@ walk (if e s t) context marks = united (walk s (under e context marks) marks) (w
 walk (while e s) context marks = rounds (width + 1) (λ loop. walk s (under e context loop) loop) marks
 walk (output channel e row) context marks = walked marks (cond (eqb channel 0 && under e context marks) (row ∷ []) [])
 
-unfoldable pub lowestOf : ℕ → List ℕ → ℕ
+abbrev pub lowestOf : ℕ → List ℕ → ℕ
 lowestOf row [] = row
 lowestOf row (other ∷ rows) = lowestOf (min row other) rows
 
 -- "The answer is pass, or fail with the lowest failing row".
-unfoldable pub checkedOf : List ℕ → Checked
+abbrev pub checkedOf : List ℕ → Checked
 checkedOf [] = Checked.Pass
 checkedOf (row ∷ rows) = Checked.Fail (lowestOf row rows)

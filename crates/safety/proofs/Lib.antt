@@ -4,3 +4,4 @@ pub mod TwoRuns
 pub mod Demand1
 pub mod Demand3
 pub mod Transparent
+pub mod Least

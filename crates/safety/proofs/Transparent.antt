@@ -65,7 +65,7 @@ module _ (terms : Terms) where
         by :
             (deny room : Bool) → (eqb channel 0 && (provisional (level l e) || context p)) ≡ deny → ltb (length r) (terms .room) ≡ room
             → SameRun (final terms (suc b) (state (statement (output channel e row) ∷ k) m l p r n))
-              (plainRun (suc b) (plain (statement (output channel e row) ∷ k) m r n))
+            (plainRun (suc b) (plain (statement (output channel e row) ∷ k) m r n))
         by true room h g =
             absurd (not-done 1 row (omega arith) (sym (ap (λ (x : Whole). x .said) (run-denied terms k m l p r n b channel e row h)) ∙ d))
         by false false h g =
