@@ -5,3 +5,4 @@ pub mod Demand1
 pub mod Demand3
 pub mod Transparent
 pub mod Least
+pub mod Permissive
