@@ -7,9 +7,9 @@ use mathlib.Core.Bool.{Bool, true, false, cond, not, _||_, or-true, or-false, or
 use mathlib.Core.Path.{_≡_, refl, sym, ap, ap₂, _∙_, subst}
 use mathlib.Core.Logic.{_≢_, _⊎_, inl, inr}
 use lib.Bits.{bitAnd, bitOr, and-step, or-step, and-zero-r, or-zero-r, or-comm, or-self, or-lt, or-add-and, and-le-r, and-mask}
-use lib.Dec.{T, eqb}
+use lib.Dec.{T, eqb, ltb}
 use lib.Pow.{pow-lt, pow-pos}
-use borrow.Author.Tests.{eqb-true, eqb-false, ne-eqb, not-false}
+use borrow.Author.Tests.{eqb-true, eqb-false, ltb-true, ltb-false, ne-eqb, not-false}
 use lib.Count.{ones, onesIn, ones-step}
 use Rattle.rules.specs.Limits.{width}
 use Rattle.rules.specs.Marks.{none, has, put, only, union, _⊆_, provisional, markedBelow, marked}
@@ -238,6 +238,13 @@ has-above (suc w) m zero small h = absurd (omega arith)
 has-above (suc w) m (suc i) small h =
     let e : 2 ^ suc w ≡ 2 ^ w * 2 = pow-suc 2 w in
     has-above w (m / 2) i (omega arith) (omega arith)
+
+pub only-in-range : (w v : ℕ) → only v < 2 ^ w → v < w
+only-in-range w v small = by (ltb v w) refl
+  where
+    by : (b : Bool) → ltb v w ≡ b → v < w
+    by true h = ltb-true v w h
+    by false h = absurd (true≢false (sym (has-only-same v) ∙ has-above w (only v) v small (ltb-false v w h)))
 
 -- ---- containment
 

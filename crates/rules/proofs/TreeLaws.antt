@@ -1,13 +1,14 @@
 -- The trees of a judged table: what an expression row and a statement row stand for, in terms of their children.
-use Prim.Native.Nat.{ℕ, zero, suc, _<_}
+use Prim.Native.Nat.{ℕ, zero, suc, _-_, _≤_, _<_}
 use native.Mathlib.Omega.{arith}
 use mathlib.Core.List.{List}
-use mathlib.Core.Path.{_≡_, refl, ap, ap₂}
+use mathlib.Core.Path.{_≡_, refl, sym, ap, ap₂, subst}
 use lib.ListN.{length}
 use Rattle.rules.specs.declared.Kind.{Kind}
 use Rattle.rules.specs.declared.Row.{Row}
+use Rattle.rules.specs.Limits.{width, highestChannel}
 use Rattle.rules.specs.Rows.{rolesOf, rowAt}
-use Rattle.rules.specs.Trees.{Expr, binary, Stmt, sequence, if, while, operatorOf, exprNode, stmtNode, exprIn, exprAt, stmtIn, stmtAt}
+use Rattle.rules.specs.Trees.{Expr, binary, Stmt, skip, assign, sequence, if, while, output, operatorOf, exprNode, stmtNode, exprIn, exprAt, stmtIn, stmtAt, recipe}
 use Rattle.rules.specs.Sound.{SoundRow, Sound}
 
 -- two readings of the children that agree below row i make one tree of row i
@@ -73,3 +74,47 @@ module _ (rows : List Row) (sound : Sound rows) where
   stmt-law i h =
       stmt-agree rows i (rowAt rows i) (exprAt rows) (stmtIn i rows) (stmtAt rows)
       (λ j k. stmt-levels i (suc j) j (omega arith) k (omega arith)) (rowAt rows i .kind) (sound .row i h)
+
+-- ---- induction over the statements of a judged table
+
+-- What has to be shown of a property of a row and its statement, kind by kind: children have lower rows.
+pub record EachKind (P : ℕ → Stmt → Type 0) : Type 0 where
+  pub of-skip : (i : ℕ) → P i skip
+  pub of-assign : (i v : ℕ) (e : Expr) → v < width → P i (assign v e)
+  pub of-sequence : (i j k : ℕ) (s t : Stmt) → j < i → k < i → P j s → P k t → P i (sequence s t)
+  pub of-if : (i j k : ℕ) (e : Expr) (s t : Stmt) → j < i → k < i → P j s → P k t → P i (if e s t)
+  pub of-while : (i j : ℕ) (e : Expr) (s : Stmt) → j < i → P j s → P i (while e s)
+  pub of-output : (i channel : ℕ) (e : Expr) → channel ≤ highestChannel → P i (output channel e i)
+
+module _ (rows : List Row) (sound : Sound rows) (P : ℕ → Stmt → Type 0) (each : EachKind P) where
+  node-holds :
+      (i : ℕ) → ((j : ℕ) → j < i → P j (stmtAt rows j)) → (row : Row) (kind : Kind) → SoundRow rows i kind row
+      → P i (stmtNode (exprAt rows) (stmtAt rows) i row kind)
+  unfolding stmtNode rolesOf
+  node-holds i below row Kind.Skip fine = each .of-skip i
+  node-holds i below row Kind.Assign fine = each .of-assign i (row .p) (exprAt rows (row .q)) (fine .p)
+  node-holds i below row Kind.Sequence fine =
+      each .of-sequence i (row .p) (row .q) _ _ (fine .p .0) (fine .q .0) (below (row .p) (fine .p .0)) (below (row .q) (fine .q .0))
+  node-holds i below row Kind.If fine =
+      each .of-if i (row .q) (row .r) (exprAt rows (row .p)) _ _ (fine .q .0) (fine .r .0) (below (row .q) (fine .q .0)) (below (row .r) (fine .r .0))
+  node-holds i below row Kind.While fine =
+      each .of-while i (row .q) (exprAt rows (row .p)) _ (fine .q .0) (below (row .q) (fine .q .0))
+  node-holds i below row Kind.Output fine = each .of-output i (row .p) (exprAt rows (row .q)) (fine .p)
+  node-holds i below row Kind.Constant fine = each .of-skip i
+  node-holds i below row Kind.Variable fine = each .of-skip i
+  node-holds i below row Kind.Binary fine = each .of-skip i
+  node-holds i below row Kind.Unknown fine = each .of-skip i
+
+  holds-below : (n i : ℕ) → i < n → n ≤ length rows → P i (stmtAt rows i)
+  holds-below zero i h few = absurd (omega arith)
+  holds-below (suc n) i h few =
+      subst (P i) (sym (stmt-law rows sound i (omega arith)))
+      (node-holds i (λ j g. holds-below n j (omega arith) (omega arith)) (rowAt rows i) (rowAt rows i .kind) (sound .row i (omega arith)))
+
+  pub stmt-induction : (i : ℕ) → i < length rows → P i (stmtAt rows i)
+  stmt-induction i h = holds-below (length rows) i h (omega arith)
+
+-- the recipe is the statement of the last row
+pub recipe-law : (rows : List Row) → recipe rows ≡ stmtAt rows (length rows - 1)
+unfolding recipe
+recipe-law rows = refl

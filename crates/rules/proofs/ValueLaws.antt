@@ -1,24 +1,23 @@
 -- Laws of an expression's value and level, and of what a statement may assign.
-use Prim.Native.Nat.{ℕ, zero, suc, _≤_, _<_, _^_, _-_}
+use Prim.Native.Nat.{ℕ, _<_, _^_, _-_}
 use native.Mathlib.Omega.{arith}
 use mathlib.Core.Bool.{Bool, true, false, cond, not, true≢false}
 use mathlib.Core.List.{List}
 use mathlib.Core.Path.{_≡_, refl, sym, ap, ap₂, _∙_, subst}
 use lib.Dec.{T, eqb}
 use lib.ListN.{length, getD}
-use Rattle.rules.specs.declared.Kind.{Kind}
 use Rattle.rules.specs.declared.Row.{Row}
 use Rattle.rules.specs.Limits.{width}
 use Rattle.rules.specs.Marks.{none, has, only, union, _⊆_, provisional}
 use Rattle.rules.specs.declared.Judged.{Judged}
-use Rattle.rules.specs.Rows.{rolesOf, rowAt, rowsOf}
+use Rattle.rules.specs.Rows.{rowsOf}
 use Rattle.rules.specs.Judging.{judge}
-use Rattle.rules.specs.Trees.{Expr, constant, variable, binary, Stmt, stmtNode, exprAt, stmtAt, recipe}
+use Rattle.rules.specs.Trees.{Expr, constant, variable, binary, Stmt, stmtAt, recipe}
 use Rattle.rules.specs.Values.{operate, value, holds, level, mayAssign}
-use Rattle.rules.specs.Sound.{SoundRow, Sound}
+use Rattle.rules.specs.Sound.{Sound}
 use Rattle.rules.proofs.MarkLaws.{has-only-same, settled-union, has-provisional, provisional-mono, none-subset, subset-refl, subset-union-left, subset-union-right, union-least, none-lt, only-lt, union-lt}
 use Rattle.rules.proofs.JudgeLaws.{accepted-sound}
-use Rattle.rules.proofs.TreeLaws.{stmt-law}
+use Rattle.rules.proofs.TreeLaws.{EachKind, stmt-induction, recipe-law}
 
 -- ---- two memories that are equal in every settled variable give a settled expression one value
 
@@ -63,35 +62,22 @@ level-rises a b sub e h = provisional-mono (level a e) (level b e) (level-mono a
 
 -- ---- a judged table assigns only variables that there are
 
-module _ (rows : List Row) (sound : Sound rows) where
-  node-range :
-      (i : ℕ) → ((j : ℕ) → j < i → mayAssign (stmtAt rows j) < 2 ^ width) → (row : Row) (kind : Kind) → SoundRow rows i kind row
-      → mayAssign (stmtNode (exprAt rows) (stmtAt rows) i row kind) < 2 ^ width
-  unfolding stmtNode rolesOf
-  node-range i below row Kind.Skip fine = none-lt width
-  node-range i below row Kind.Assign fine = only-lt width (row .p) (fine .p)
-  node-range i below row Kind.Sequence fine =
-      union-lt width _ _ (below (row .p) (fine .p .0)) (below (row .q) (fine .q .0))
-  node-range i below row Kind.If fine = union-lt width _ _ (below (row .q) (fine .q .0)) (below (row .r) (fine .r .0))
-  node-range i below row Kind.While fine = below (row .q) (fine .q .0)
-  node-range i below row Kind.Output fine = none-lt width
-  node-range i below row Kind.Constant fine = none-lt width
-  node-range i below row Kind.Variable fine = none-lt width
-  node-range i below row Kind.Binary fine = none-lt width
-  node-range i below row Kind.Unknown fine = none-lt width
+in-range : EachKind (λ i s. mayAssign s < 2 ^ width)
+in-range = record {
+  of-skip = λ i. none-lt width;
+  of-assign = λ i v e h. only-lt width v h;
+  of-sequence = λ i j k s t hj hk p q. union-lt width (mayAssign s) (mayAssign t) p q;
+  of-if = λ i j k e s t hj hk p q. union-lt width (mayAssign s) (mayAssign t) p q;
+  of-while = λ i j e s hj p. p;
+  of-output = λ i channel e h. none-lt width;
+}
 
-  range-below : (n i : ℕ) → i < n → n ≤ length rows → mayAssign (stmtAt rows i) < 2 ^ width
-  range-below zero i h few = absurd (omega arith)
-  range-below (suc n) i h few =
-      subst (λ (s : Stmt). mayAssign s < 2 ^ width) (sym (stmt-law rows sound i (omega arith)))
-      (node-range i (λ j k. range-below n j (omega arith) (omega arith)) (rowAt rows i) (rowAt rows i .kind) (sound .row i (omega arith)))
-
-  pub may-assign-range : (i : ℕ) → i < length rows → mayAssign (stmtAt rows i) < 2 ^ width
-  may-assign-range i h = range-below (length rows) i h (omega arith)
+pub may-assign-range : (rows : List Row) → Sound rows → (i : ℕ) → i < length rows → mayAssign (stmtAt rows i) < 2 ^ width
+may-assign-range rows sound i h = stmt-induction rows sound (λ i s. mayAssign s < 2 ^ width) in-range i h
 
 pub recipe-range : (words : List ℕ) → judge words ≡ Judged.Accepted → mayAssign (recipe (rowsOf words)) < 2 ^ width
-unfolding recipe
 recipe-range words e =
     let sound : Sound (rowsOf words) = accepted-sound words e in
     let some : 0 < length (rowsOf words) = sound .some in
-    may-assign-range (rowsOf words) sound (length (rowsOf words) - 1) (omega arith)
+    subst (λ (s : Stmt). mayAssign s < 2 ^ width) (sym (recipe-law (rowsOf words)))
+    (may-assign-range (rowsOf words) sound (length (rowsOf words) - 1) (omega arith))

@@ -6,3 +6,4 @@ pub mod Demand3
 pub mod Transparent
 pub mod Least
 pub mod Permissive
+pub mod Bounds
