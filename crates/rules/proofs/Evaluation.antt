@@ -14,7 +14,7 @@ use Rattle.rules.specs.Further.{further, Further}
 use Rattle.rules.specs.Refusals.{grown, judgements, traced, longest, CaseJ, CaseK, Longest}
 
 -- Whoever unfolds this unfolds every rule.
-rules : Unit {0}
+unfoldable pub rules : Unit {0}
 unfolding kindOf rolesOf isStatement isExpression isUnknown rowOf rowsOf absent rowAt operatorOf exprNode stmtNode exprIn exprAt stmtIn stmtAt recipe wrongCount wrongWord wrongWords wrongChild wrongChildren childOf children places wrongParents tooDeep lowest orElse judgeRows judge judgeTrace none has put only union provisional operate holds start guarded skipped assigned opened branched turned closedMarks popped closed recorded isDenied outputAttempt begin attempt atBudget follow run rested added rounds judgement answered termsOf answer traceWordsOf traceAfter advised advice wordsOf memoryOf answerTo resultOf recordless
 rules = tt
 

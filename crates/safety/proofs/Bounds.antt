@@ -12,9 +12,9 @@ use Rattle.rules.specs.Limits.{width, mostRows, mostNesting}
 use Rattle.rules.specs.Rows.{rowsOf}
 use Rattle.rules.specs.Trees.{Stmt, skip, assign, sequence, if, while, output, nesting, stmtAt, recipe}
 use Rattle.rules.specs.Judging.{judge}
-use Rattle.rules.specs.Marks.{none, only, union, provisional}
+use Rattle.rules.specs.Marks.{none, provisional}
 use Rattle.rules.specs.Values.{level, mayAssign}
-use Rattle.rules.specs.Running.{Item, statement, close, Record, State, Terms, context, push, start, run}
+use Rattle.rules.specs.Running.{Item, statement, close, Record, State, context, push, start, run}
 use Rattle.rules.specs.Sound.{Sound}
 use Rattle.rules.proofs.MarkLaws.{none-lt, put-lt, union-lt, union-lt-left, union-lt-right, only-in-range}
 use Rattle.rules.proofs.JudgeLaws.{accepted-sound}

@@ -2,13 +2,12 @@
 use Prim.Native.Nat.{ℕ, _+_, _≤_}
 use native.Mathlib.Omega.{arith}
 use mathlib.Core.List.{List, [], _∷_}
-use mathlib.Core.Path.{_≡_, refl, sym, ap, _∙_, subst}
+use mathlib.Core.Path.{refl, sym, ap, _∙_, subst}
 use lib.ListN.{length}
-use Rattle.rules.specs.declared.Ended.{Ended}
 use Rattle.rules.specs.Rows.{rowsOf}
 use Rattle.rules.specs.Trees.{recipe}
-use Rattle.rules.specs.Running.{statement, run}
-use Rattle.rules.specs.Answers.{Said, refused, verdict, Whole, answer, termsOf, saidOfRun, traceAfter}
+use Rattle.rules.specs.Running.{statement}
+use Rattle.rules.specs.Answers.{Whole, answer, termsOf}
 use Rattle.rules.proofs.RunLaws.{state, final}
 use Rattle.rules.proofs.RunInvariants.{run-steps, run-done-idle, run-unrefused}
 use Rattle.rules.proofs.AnswerLaws.{turnedAway, Call, ran, away, call, trace-kept}

@@ -3,8 +3,8 @@ use Prim.Native.Nat.{ℕ, _≤_}
 use native.Mathlib.Omega.{arith}
 use mathlib.Core.Bool.{Bool, true, false}
 use mathlib.Core.List.{List, [], _∷_}
-use mathlib.Core.Logic.{_⊎_, inl, inr}
-use mathlib.Core.Path.{_≡_, refl, sym, ap, _∙_, subst}
+use mathlib.Core.Logic.{inl, inr}
+use mathlib.Core.Path.{_≡_, refl, sym, _∙_, subst}
 use lib.Dec.{ltb}
 use lib.ListN.{length, getD, List·getD-eq-default}
 use borrow.Author.Tests.{ltb-true, ltb-false}
@@ -12,13 +12,13 @@ use Rattle.rules.specs.Limits.{width}
 use Rattle.rules.specs.Marks.{has}
 use Rattle.rules.specs.Rows.{rowsOf}
 use Rattle.rules.specs.Trees.{recipe}
-use Rattle.rules.specs.Running.{statement, Record}
+use Rattle.rules.specs.Running.{statement}
 use Rattle.rules.specs.Answers.{refused, verdict, Whole, answer, termsOf}
 use Rattle.rules.proofs.RunLaws.{state, final}
-use Rattle.rules.proofs.AnswerLaws.{turnedAway, Call, ran, away, call}
+use Rattle.rules.proofs.AnswerLaws.{Call, ran, away, call}
 use Rattle.safety.specs.Stations.{settledRecords, Begins}
-use Rattle.safety.specs.Demands.{TwoMemories, OneBeginsTheOther, SameToTheStations, BothDoneAreTheSame}
-use Rattle.safety.proofs.TwoRuns.{Related, Alike, alike}
+use Rattle.safety.specs.Demands.{TwoMemories, OneBeginsTheOther, BothDoneAreTheSame}
+use Rattle.safety.proofs.TwoRuns.{Alike, alike}
 
 refused-not-done : {A : Type 0} (number row : ℕ) → refused number row ≡ verdict 0 0 → A
 refused-not-done number row e = let z : _≡_ {A = ℕ} 0 1 = cc in absurd (omega arith)

@@ -4,27 +4,24 @@ use Prim.Native.Nat.{ℕ, _≤_, _<_, _^_, min}
 use native.Mathlib.Omega.{arith}
 use mathlib.Core.Bool.{Bool, true, false, _||_}
 use mathlib.Core.List.{List, [], _∷_, _++_}
-use mathlib.Core.Logic.{_⊎_, inl, inr, _↔_}
+use mathlib.Core.Logic.{_⊎_, inl, inr}
 use mathlib.Core.Path.{_≡_, refl, sym, ap, ap₂, _∙_, subst}
 use lib.Dec.{leb}
 use borrow.Author.Tests.{leb-true, leb-false}
-use Rattle.rules.specs.declared.Judged.{Judged}
-use Rattle.rules.specs.declared.Checked.{Checked}
 use Rattle.rules.specs.Limits.{width}
 use Rattle.rules.specs.Rows.{rowsOf}
 use Rattle.rules.specs.Trees.{Expr, Stmt, skip, assign, sequence, if, while, output, recipe}
-use Rattle.rules.specs.Judging.{judge}
-use Rattle.rules.specs.Marks.{none, only, put, union, _⊆_, provisional}
+use Rattle.rules.specs.Marks.{none, union, _⊆_, provisional}
 use Rattle.rules.specs.Values.{level, mayAssign}
 use Rattle.rules.specs.LevelRules.{under, Choice, result, Solves, Within, failing}
-use Rattle.rules.specs.LevelCheck.{Walked, walk, lowestOf, checkedOf}
-use Rattle.rules.specs.Answers.{saidOfCheck, Advised, advice}
+use Rattle.rules.specs.LevelCheck.{walk, lowestOf, checkedOf}
+use Rattle.rules.specs.Answers.{saidOfCheck, Advised}
 use Rattle.rules.proofs.MarkLaws.{subset-refl, subset-union-left, subset-union-right, union-least, union-mono, put-mono, put-adds, union-lt-left, union-lt-right}
 use Rattle.rules.proofs.ValueLaws.{level-rises, recipe-range}
 use Rattle.rules.proofs.LevelLaws.{Rested, rounds-law}
 use Rattle.rules.proofs.AnswerLaws.{advice-accepted}
 use Rattle.safety.specs.Stations.{Among}
-use Rattle.safety.specs.Demands.{Least, LevelCheckIsLeast, LowestIsNamed}
+use Rattle.safety.specs.Demands.{LevelCheckIsLeast, LowestIsNamed}
 
 -- ---- a walk adds only variables that the statement may assign, so a loop comes to rest
 

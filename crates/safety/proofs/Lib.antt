@@ -7,3 +7,4 @@ pub mod Transparent
 pub mod Least
 pub mod Permissive
 pub mod Bounds
+pub mod Examples

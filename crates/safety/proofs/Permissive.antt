@@ -5,7 +5,7 @@ use native.Mathlib.Omega.{arith}
 use mathlib.Core.Bool.{Bool, true, false, cond, _||_, _&&_, or-true, true≢false}
 use mathlib.Core.List.{List, [], _∷_, _++_}
 use mathlib.Core.Logic.{_≢_}
-use mathlib.Core.Path.{_≡_, refl, sym, ap, ap₂, _∙_, subst}
+use mathlib.Core.Path.{_≡_, refl, sym, ap, _∙_, subst}
 use lib.Dec.{eqb, ltb}
 use lib.ListN.{length}
 use Rattle.rules.specs.declared.Judged.{Judged}
@@ -19,13 +19,13 @@ use Rattle.rules.specs.Values.{holds, level, mayAssign}
 use Rattle.rules.specs.Running.{Item, statement, close, Record, Terms, context, push}
 use Rattle.rules.specs.LevelRules.{under, Choice, result, Solves, failing}
 use Rattle.rules.specs.LevelCheck.{walk, checkedOf}
-use Rattle.rules.specs.Answers.{Said, refused, verdict, pass, saidOfCheck, Whole, answer, termsOf, Advised, advice}
+use Rattle.rules.specs.Answers.{verdict, pass, Whole, answer, termsOf, Advised, advice}
 use Rattle.rules.proofs.MarkLaws.{subset-refl, subset-union-left, subset-union-right, union-least, none-subset, put-mono, put-union}
 use Rattle.rules.proofs.ValueLaws.{recipe-range}
-use Rattle.rules.proofs.RunLaws.{state, final, run-done, run-spent, run-sequence, run-skip, run-assign, run-close-empty, run-close, run-then, run-else, run-turn, run-leave, run-denied, run-roomless, run-record}
-use Rattle.rules.proofs.AnswerLaws.{Call, ran, away, call, advice-accepted, advice-refused, checked-unique}
+use Rattle.rules.proofs.RunLaws.{state, final, run-done, run-spent, run-sequence, run-skip, run-assign, run-close-empty, run-close, run-then, run-else, run-turn, run-leave, run-roomless, run-record}
+use Rattle.rules.proofs.AnswerLaws.{Call, ran, away, call, advice-accepted, checked-unique}
 use Rattle.safety.specs.Demands.{PassedIsNeverStopped}
-use Rattle.safety.proofs.Least.{solved, solved-result, solved-failing, solved-solves, under-mono, lowest-is-named}
+use Rattle.safety.proofs.Least.{solved, solved-failing, solved-solves, under-mono, lowest-is-named}
 
 -- ---- in a provisional context a solution marks all that a statement may assign, and unmarks nothing
 

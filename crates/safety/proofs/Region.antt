@@ -9,14 +9,13 @@ use mathlib.Core.Path.{_≡_, refl, sym, ap, ap₂, _∙_, subst}
 use lib.Dec.{eqb, ltb}
 use lib.ListN.{length, getD, set, length-set}
 use lib.Seq.{getD-set-other}
-use borrow.Author.Tests.{eqb-true, eqb-false}
 use Rattle.rules.specs.declared.Ended.{Ended}
-use Rattle.rules.specs.Marks.{none, has, put, only, union, _⊆_, provisional}
+use Rattle.rules.specs.Marks.{none, has, put, only, union, provisional}
 use Rattle.rules.specs.Trees.{Expr, Stmt, skip, assign, sequence, if, while, output}
 use Rattle.rules.specs.Values.{value, holds, level, mayAssign}
-use Rattle.rules.specs.Running.{Item, statement, close, Record, State, Terms, context, push, outcome}
-use Rattle.rules.specs.Answers.{Said, verdict, Whole, reached}
-use Rattle.rules.proofs.MarkLaws.{has-only-same, union-none-left, union-none-right, union-comm, union-assoc, union-self, put-union, not-in-union, subset-union-left}
+use Rattle.rules.specs.Running.{Item, statement, close, Record, Terms, context, push, outcome}
+use Rattle.rules.specs.Answers.{verdict, Whole, reached}
+use Rattle.rules.proofs.MarkLaws.{has-only-same, union-none-right, union-comm, union-assoc, union-self, put-union, not-in-union, subset-union-left}
 use Rattle.rules.proofs.ValueLaws.{level-rises}
 use Rattle.rules.proofs.RunLaws.{state, final, run-spent, run-sequence, run-skip, run-assign, run-close, run-then, run-else, run-turn, run-leave, run-denied, run-roomless, run-record}
 use Rattle.safety.specs.Stations.{settledRecords}

@@ -8,21 +8,20 @@ use mathlib.Core.Logic.{_≢_, _⊎_, inl, inr}
 use mathlib.Core.Path.{_≡_, refl, sym, ap, ap₂, _∙_, subst}
 use lib.Dec.{eqb, ltb}
 use lib.ListN.{length, getD, set, length-set, List·getD-eq-default}
-use lib.Seq.{getD-set-same, getD-set-other, set-out}
+use lib.Seq.{getD-set-same, getD-set-other}
 use borrow.Author.Tests.{eqb-true, eqb-false, ltb-true, ltb-false}
-use Rattle.rules.specs.declared.Ended.{Ended}
 use Rattle.rules.specs.Marks.{has, put, union, provisional}
 use Rattle.rules.specs.Trees.{Expr, Stmt, skip, assign, sequence, if, while, output}
 use Rattle.rules.specs.Values.{value, holds, level, mayAssign}
-use Rattle.rules.specs.Running.{Item, statement, close, Record, Terms, context, push, outcome}
-use Rattle.rules.specs.Answers.{verdict, Whole, reached}
+use Rattle.rules.specs.Running.{Item, statement, close, Record, Terms, push}
+use Rattle.rules.specs.Answers.{verdict, Whole}
 use Rattle.rules.proofs.MarkLaws.{has-put-same, has-put-other, not-in-union}
 use Rattle.rules.proofs.ValueLaws.{value-agree, holds-agree}
 use Rattle.rules.proofs.RunLaws.{state, final, run-done, run-spent, run-sequence, run-skip, run-assign, run-close-empty, run-then, run-else, run-turn, run-leave, run-denied, run-roomless, run-record}
 use Rattle.rules.proofs.RunInvariants.{Keeps, run-keeps}
 use Rattle.safety.specs.Stations.{settledRecords, Begins}
 use Rattle.safety.specs.Demands.{SameToTheStations}
-use Rattle.safety.proofs.Region.{Same, Passed, ends, through, not-done, settled-snoc, if-confined, while-confined}
+use Rattle.safety.proofs.Region.{Passed, ends, through, not-done, settled-snoc, if-confined, while-confined}
 
 -- ---- what the stations read only grows
 

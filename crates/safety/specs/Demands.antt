@@ -13,7 +13,7 @@ use Rattle.rules.specs.Rows.{rowsOf}
 use Rattle.rules.specs.Trees.{Stmt, recipe}
 use Rattle.rules.specs.Judging.{judge}
 use Rattle.rules.specs.Marks.{has, _⊆_}
-use Rattle.rules.specs.Running.{State, Terms, Outcome, start, run}
+use Rattle.rules.specs.Running.{State, Terms, start, run}
 use Rattle.rules.specs.Unwatched.{PlainOutcome, plainStart, plainRun}
 use Rattle.rules.specs.LevelRules.{Choice, Solves, Within, result, failing}
 use Rattle.rules.specs.LevelCheck.{checkedOf}

@@ -1,3 +1,4 @@
 -- The demands, and the words that they use.
 pub mod Stations
 pub mod Demands
+pub mod Examples
