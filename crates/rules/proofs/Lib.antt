@@ -4,3 +4,4 @@ pub mod JudgeLaws
 pub mod TreeLaws
 pub mod RunLaws
 pub mod Evaluation
+pub mod RowLaws

@@ -1,0 +1,2 @@
+// The table: its rows, what each word of a row is, and the judge.
+pub mod rows;
