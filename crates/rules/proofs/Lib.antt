@@ -5,3 +5,5 @@ pub mod TreeLaws
 pub mod RunLaws
 pub mod Evaluation
 pub mod RowLaws
+pub mod RefusalLaws
+pub mod AnswerLaws

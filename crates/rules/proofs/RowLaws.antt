@@ -21,14 +21,14 @@ use Rattle.rules.proofs.JudgeLaws.{row-law, row-absent, rows-length}
 
 -- ---- the arms of a match: what holds at each of an arm's places of an enum holds of a value at one of them
 
-abbrev pub Each : {A : Type 0} → (ℕ → A) → A → List ℕ → Type 0
-Each f a ks = map f ks ≡ map (λ k. a) ks
+pub record Arm {D A : Type 0} (at : ℕ → D) (f : D → A) (a : A) (ks : List ℕ) : Type 0 where
+  pub each : map (λ k. f (at k)) ks ≡ map (λ k. a) ks
 
-arm : {A : Type 0} (f : ℕ → A) (a : A) (ks : List ℕ) (x : ℕ) → Each f a ks → OneOf ks x → f x ≡ a
-arm f a [] x each among = absurd among
-arm f a (k ∷ []) x each among = ap f among ∙ ap (λ l. getD l 0 a) each
-arm f a (k ∷ k′ ∷ ks) x each (inl here) = ap f here ∙ ap (λ l. getD l 0 a) each
-arm f a (k ∷ k′ ∷ ks) x each (inr among) = arm f a (k′ ∷ ks) x (ap (drop 1) each) among
+at-key : {A : Type 0} (f : ℕ → A) (a : A) (ks : List ℕ) (x : ℕ) → map f ks ≡ map (λ k. a) ks → OneOf ks x → f x ≡ a
+at-key f a [] x each among = absurd among
+at-key f a (k ∷ []) x each among = ap f among ∙ ap (λ l. getD l 0 a) each
+at-key f a (k ∷ k′ ∷ ks) x each (inl here) = ap f here ∙ ap (λ l. getD l 0 a) each
+at-key f a (k ∷ k′ ∷ ks) x each (inr among) = at-key f a (k′ ∷ ks) x (ap (drop 1) each) among
 
 abbrev pub kindAt : ℕ → Kind
 kindAt n =
@@ -50,10 +50,10 @@ kind-place Kind.Binary = refl
 kind-place Kind.Unknown = refl
 
 pub kind-arm :
-    {A : Type 0} (f : Kind → A) (a : A) (ks : List ℕ) (kind : Kind) → Each (λ n. f (kindAt n)) a ks
+    {A : Type 0} {f : Kind → A} {a : A} {ks : List ℕ} → Arm kindAt f a ks → (kind : Kind)
     → OneOf ks (tagOf kind-type.the-type kind) → f kind ≡ a
-kind-arm f a ks kind each among =
-    sym (ap f (kind-place kind)) ∙ arm (λ n. f (kindAt n)) a ks (tagOf kind-type.the-type kind) each among
+kind-arm {A} {f} {a} {ks} arm kind among =
+    sym (ap f (kind-place kind)) ∙ at-key (λ n. f (kindAt n)) a ks (tagOf kind-type.the-type kind) (arm .each) among
 
 abbrev pub roleAt : ℕ → Role
 roleAt n =
@@ -69,28 +69,29 @@ role-place Role.Channel = refl
 role-place Role.Operator = refl
 
 pub role-arm :
-    {A : Type 0} (f : Role → A) (a : A) (ks : List ℕ) (role : Role) → Each (λ n. f (roleAt n)) a ks
+    {A : Type 0} {f : Role → A} {a : A} {ks : List ℕ} → Arm roleAt f a ks → (role : Role)
     → OneOf ks (tagOf role-type.the-type role) → f role ≡ a
-role-arm f a ks role each among =
-    sym (ap f (role-place role)) ∙ arm (λ n. f (roleAt n)) a ks (tagOf role-type.the-type role) each among
+role-arm {A} {f} {a} {ks} arm role among =
+    sym (ap f (role-place role)) ∙ at-key (λ n. f (roleAt n)) a ks (tagOf role-type.the-type role) (arm .each) among
 
 -- ---- kinds
 
-pub statement-arm : (kind : Kind) → OneOf (0 ∷ 1 ∷ 2 ∷ 3 ∷ 4 ∷ 5 ∷ []) (tagOf kind-type.the-type kind) → isStatement kind ≡ true
+pub statement-arms :
+    Arm kindAt isStatement true (0 ∷ 1 ∷ 2 ∷ 3 ∷ 4 ∷ 5 ∷ []) × Arm kindAt isStatement false (6 ∷ 7 ∷ 8 ∷ 9 ∷ [])
 unfolding isStatement
-statement-arm kind = kind-arm isStatement true (0 ∷ 1 ∷ 2 ∷ 3 ∷ 4 ∷ 5 ∷ []) kind refl
+statement-arms = (record { each = refl }, record { each = refl })
 
-pub no-statement-arm : (kind : Kind) → OneOf (6 ∷ 7 ∷ 8 ∷ 9 ∷ []) (tagOf kind-type.the-type kind) → isStatement kind ≡ false
-unfolding isStatement
-no-statement-arm kind = kind-arm isStatement false (6 ∷ 7 ∷ 8 ∷ 9 ∷ []) kind refl
-
-pub expression-arm : (kind : Kind) → OneOf (6 ∷ 7 ∷ 8 ∷ []) (tagOf kind-type.the-type kind) → isExpression kind ≡ true
+pub expression-arms :
+    Arm kindAt isExpression true (6 ∷ 7 ∷ 8 ∷ [])
+    × Arm kindAt isExpression false (0 ∷ 1 ∷ 2 ∷ 3 ∷ 4 ∷ 5 ∷ 9 ∷ [])
 unfolding isExpression
-expression-arm kind = kind-arm isExpression true (6 ∷ 7 ∷ 8 ∷ []) kind refl
+expression-arms = (record { each = refl }, record { each = refl })
 
-pub no-expression-arm : (kind : Kind) → OneOf (0 ∷ 1 ∷ 2 ∷ 3 ∷ 4 ∷ 5 ∷ 9 ∷ []) (tagOf kind-type.the-type kind) → isExpression kind ≡ false
-unfolding isExpression
-no-expression-arm kind = kind-arm isExpression false (0 ∷ 1 ∷ 2 ∷ 3 ∷ 4 ∷ 5 ∷ 9 ∷ []) kind refl
+pub unknown-arms :
+    Arm kindAt isUnknown true (9 ∷ [])
+    × Arm kindAt isUnknown false (0 ∷ 1 ∷ 2 ∷ 3 ∷ 4 ∷ 5 ∷ 6 ∷ 7 ∷ 8 ∷ [])
+unfolding isUnknown
+unknown-arms = (record { each = refl }, record { each = refl })
 
 -- what each word is, as a table by the kind's place
 abbrev pub rolesTable : List Roles

@@ -1,1 +1,3 @@
--- The laws of this crate.
+-- The laws of what the judge's passes hold.
+mod CountLaws
+mod DepthLaws

@@ -1,0 +1,26 @@
+-- The laws of answers: what is said of an answer decides it.
+use Prim.Native.Nat.{ℕ}
+use mathlib.Core.List.{List}
+use mathlib.Core.Path.{_≡_, refl, ap, ap₂}
+use native.Mathlib.Omega.{arith}
+use Rattle.rules.specs.declared.Judged.{Judged}
+use Rattle.rules.specs.Judging.{judge}
+use Rattle.rules.specs.Answers.{Said, accepted, refused, saidOfJudge, judgement}
+
+pub judged-said : (words : List ℕ) {answer : Judged} → answer ≡ judge words → saidOfJudge answer ≡ judgement words
+unfolding judgement
+judged-said words e = ap saidOfJudge e
+
+same-judged : (a b : Judged) → saidOfJudge a ≡ saidOfJudge b → a ≡ b
+unfolding saidOfJudge
+same-judged Judged.Accepted Judged.Accepted e = refl
+same-judged Judged.Accepted (Judged.Refused number row) e = let z : _≡_ {A = ℕ} 0 1 = cc in absurd (omega arith)
+same-judged (Judged.Refused number row) Judged.Accepted e = let z : _≡_ {A = ℕ} 0 1 = cc in absurd (omega arith)
+same-judged (Judged.Refused number row) (Judged.Refused number′ row′) e =
+    let n : number ≡ number′ = cc in
+    let r : row ≡ row′ = cc in
+    ap₂ Judged.Refused n r
+
+pub said-judged : (words : List ℕ) {answer : Judged} → saidOfJudge answer ≡ judgement words → answer ≡ judge words
+unfolding judgement
+said-judged words {answer} e = same-judged answer (judge words) e
