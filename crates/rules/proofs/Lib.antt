@@ -7,3 +7,4 @@ pub mod Evaluation
 pub mod RowLaws
 pub mod RefusalLaws
 pub mod AnswerLaws
+pub mod ValueLaws

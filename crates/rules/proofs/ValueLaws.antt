@@ -1,0 +1,132 @@
+-- The laws of the operators, of an expression's value and level, and of what a statement may assign.
+use Prim.Native.Nat.{ℕ, _+_, _*_, _/_, _%_, _^_, _≤_, _<_}
+use native.Mathlib.Nat.{lt-of-le-of-lt, le-of-lt, mul-le-mul-left, mul-lt-mul-of-pos-right}
+use native.Mathlib.Omega.{arith}
+use mathlib.Core.Bool.{Bool, cond}
+use mathlib.Core.List.{List, [], _∷_}
+use mathlib.Core.Path.{_≡_, refl, sym, ap, _∙_}
+use lib.ListN.{getD}
+use lib.Pow.{pow-pos}
+use borrow.Author.Tests.{eq-eqb, ne-eqb, lt-ltb, le-ltb}
+use Rattle.rules.specs.declared.Kind.{Kind}
+use Rattle.rules.specs.declared.Operator.{Operator}
+use Rattle.rules.specs.declared.Row.{Row}
+use Rattle.rules.specs.Limits.{wordBits}
+use Rattle.rules.specs.Marks.{none, has, only, union}
+use Rattle.rules.specs.Trees.{Expr, Stmt, operatorOf, exprNode, stmtNode}
+use Rattle.rules.specs.Values.{operate, value, level, mayAssign}
+use Rattle.rules.proofs.RowLaws.{Arm, kindAt, Other}
+
+-- ---- the operators by their numbers
+
+pub operators-law :
+    (operatorOf 0 ≡ Operator.Sum)
+    × (operatorOf 1 ≡ Operator.Difference)
+    × (operatorOf 2 ≡ Operator.Product)
+    × (operatorOf 3 ≡ Operator.Quotient)
+    × (operatorOf 4 ≡ Operator.Equal)
+unfolding operatorOf
+operators-law = (refl, refl, refl, refl, refl)
+
+pub operator-less : (n : ℕ) → Other (4 ∷ 3 ∷ 2 ∷ 1 ∷ 0 ∷ []) n → operatorOf n ≡ Operator.Less
+unfolding operatorOf
+operator-less n other =
+    simp (
+      ne-eqb n 4 (other .1),
+      ne-eqb n 3 (other .0 .1),
+      ne-eqb n 2 (other .0 .0 .1),
+      ne-eqb n 1 (other .0 .0 .0 .1),
+      ne-eqb n 0 (other .0 .0 .0 .0 .1),
+    )
+
+-- ---- the operators' values
+
+pub sum-law : (a b : ℕ) → operate Operator.Sum a b ≡ (a + b) % 2 ^ wordBits
+unfolding operate
+sum-law a b = refl
+
+-- the difference is what the subtrahend added to wraps back
+pub difference-law : (a b r : ℕ) → b < 2 ^ wordBits → r < 2 ^ wordBits → (r + b) % 2 ^ wordBits ≡ a → r ≡ operate Operator.Difference a b
+unfolding operate
+difference-law a b r hb hr e = omega arith
+
+pub product-law : (a b : ℕ) → operate Operator.Product a b ≡ (a * b) % 2 ^ wordBits
+unfolding operate
+product-law a b = refl
+
+-- the whole product of two words fits a word of twice as many bits
+pub product-fits : (a b : ℕ) → a < 2 ^ wordBits → b < 2 ^ wordBits → a * b < 2 ^ (wordBits + wordBits)
+product-fits a b ha hb =
+    lt-of-le-of-lt (mul-le-mul-left a (le-of-lt hb)) (mul-lt-mul-of-pos-right {k = 2 ^ wordBits} ha (pow-pos wordBits))
+
+pub quotient-none : (a b : ℕ) → b ≡ 0 → operate Operator.Quotient a b ≡ 0
+unfolding operate
+quotient-none a b h = ap (λ (t : Bool). cond t 0 (a / b)) (eq-eqb b 0 h)
+
+pub quotient-law : (a b : ℕ) → (b ≡ 0 → ⊥) → operate Operator.Quotient a b ≡ a / b
+unfolding operate
+quotient-law a b h = ap (λ (t : Bool). cond t 0 (a / b)) (ne-eqb b 0 h)
+
+pub equal-law : (a b : ℕ) → a ≡ b → operate Operator.Equal a b ≡ 1
+unfolding operate
+equal-law a b h = ap (λ (t : Bool). cond t 1 0) (eq-eqb a b h)
+
+pub unequal-law : (a b : ℕ) → (a ≡ b → ⊥) → operate Operator.Equal a b ≡ 0
+unfolding operate
+unequal-law a b h = ap (λ (t : Bool). cond t 1 0) (ne-eqb a b h)
+
+pub less-law : (a b : ℕ) → a < b → operate Operator.Less a b ≡ 1
+unfolding operate
+less-law a b h = ap (λ (t : Bool). cond t 1 0) (lt-ltb a b h)
+
+pub not-less-law : (a b : ℕ) → b ≤ a → operate Operator.Less a b ≡ 0
+unfolding operate
+not-less-law a b h = ap (λ (t : Bool). cond t 1 0) (le-ltb a b h)
+
+-- ---- value, level and may-assign of a row, by the arms of a match on its kind
+
+module _ (child : ℕ → Expr) (row : Row) where
+  pub value-arms :
+      (memory : List ℕ)
+      → Arm kindAt (λ (kind : Kind). value memory (exprNode child row kind)) (row .p) (6 ∷ [])
+      × Arm kindAt (λ (kind : Kind). value memory (exprNode child row kind)) (getD memory (row .p) 0) (7 ∷ [])
+      × Arm
+      kindAt
+      (λ (kind : Kind). value memory (exprNode child row kind))
+      (operate (operatorOf (row .p)) (value memory (child (row .q))) (value memory (child (row .r))))
+      (8 ∷ [])
+      × Arm kindAt (λ (kind : Kind). value memory (exprNode child row kind)) 0 (0 ∷ 1 ∷ 2 ∷ 3 ∷ 4 ∷ 5 ∷ 9 ∷ [])
+  unfolding value exprNode
+  value-arms memory = (record { each = refl }, record { each = refl }, record { each = refl }, record { each = refl })
+
+  pub level-arms :
+      (marks : ℕ)
+      → Arm kindAt (λ (kind : Kind). level marks (exprNode child row kind)) none (6 ∷ [])
+      × Arm kindAt (λ (kind : Kind). level marks (exprNode child row kind)) (cond (has marks (row .p)) (only (row .p)) none) (7 ∷ [])
+      × Arm
+      kindAt
+      (λ (kind : Kind). level marks (exprNode child row kind))
+      (union (level marks (child (row .q))) (level marks (child (row .r))))
+      (8 ∷ [])
+      × Arm kindAt (λ (kind : Kind). level marks (exprNode child row kind)) none (0 ∷ 1 ∷ 2 ∷ 3 ∷ 4 ∷ 5 ∷ 9 ∷ [])
+  unfolding level exprNode
+  level-arms marks = (record { each = refl }, record { each = refl }, record { each = refl }, record { each = refl })
+
+pub assign-arms :
+    (test : ℕ → Expr) (child : ℕ → Stmt) (i : ℕ) (row : Row)
+    → Arm kindAt (λ (kind : Kind). mayAssign (stmtNode test child i row kind)) (only (row .p)) (1 ∷ [])
+    × Arm
+    kindAt
+    (λ (kind : Kind). mayAssign (stmtNode test child i row kind))
+    (union (mayAssign (child (row .p))) (mayAssign (child (row .q))))
+    (2 ∷ [])
+    × Arm
+    kindAt
+    (λ (kind : Kind). mayAssign (stmtNode test child i row kind))
+    (union (mayAssign (child (row .q))) (mayAssign (child (row .r))))
+    (3 ∷ [])
+    × Arm kindAt (λ (kind : Kind). mayAssign (stmtNode test child i row kind)) (mayAssign (child (row .q))) (4 ∷ [])
+    × Arm kindAt (λ (kind : Kind). mayAssign (stmtNode test child i row kind)) none (0 ∷ 5 ∷ 6 ∷ 7 ∷ 8 ∷ 9 ∷ [])
+unfolding mayAssign stmtNode
+assign-arms test child i row =
+    (record { each = refl }, record { each = refl }, record { each = refl }, record { each = refl }, record { each = refl })
