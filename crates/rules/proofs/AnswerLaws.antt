@@ -13,7 +13,7 @@ use Rattle.rules.specs.Trees.{recipe}
 use Rattle.rules.specs.Judging.{orElse, judge, judgeTrace}
 use Rattle.rules.specs.Running.{statement, start}
 use Rattle.rules.specs.LevelCheck.{walk, checkedOf}
-use Rattle.rules.specs.Answers.{Said, accepted, refused, verdict, pass, fail, saidOfJudge, saidOfRun, saidOfCheck, Whole, answered, termsOf, answer, traceWordsOf, traceAfter, advised, advice}
+use Rattle.rules.specs.Answers.{Said, accepted, refused, verdict, pass, fail, saidOfJudge, saidOfRun, saidOfCheck, Whole, answered, termsOf, answer, traceWordsOf, traceAfter, advised, advice, judgement}
 use Rattle.rules.proofs.RunLaws.{state, final}
 use Rattle.rules.proofs.JudgeLaws.{orElse-accepted}
 
@@ -117,3 +117,13 @@ checked-back (Checked.Refused number row) = refl
 
 pub checked-unique : (a b : Checked) → saidOfCheck a ≡ saidOfCheck b → a ≡ b
 checked-unique a b e = sym (checked-back a) ∙ ap checkedBack e ∙ checked-back b
+
+-- ---- the judge's answer and what is said of it
+
+pub judged-said : (words : List ℕ) {answer : Judged} → answer ≡ judge words → saidOfJudge answer ≡ judgement words
+unfolding judgement
+judged-said words e = ap saidOfJudge e
+
+pub said-judged : (words : List ℕ) {answer : Judged} → saidOfJudge answer ≡ judgement words → answer ≡ judge words
+unfolding judgement
+said-judged words {answer} e = judged-unique answer (judge words) e

@@ -1,5 +1,5 @@
 -- The judge: which refusal is given, and what follows from "accepted".
-use Prim.Native.Nat.{ℕ, zero, suc, _+_, _*_, _/_, _%_, _≤_, _<_}
+use Prim.Native.Nat.{ℕ, zero, suc, _+_, _-_, _*_, _/_, _%_, _≤_, _<_}
 use native.Mathlib.Omega.{arith}
 use mathlib.Core.Bool.{Bool, true, false, cond, _||_, true≢false}
 use mathlib.Core.List.{List, [], _∷_}
@@ -14,7 +14,7 @@ use Rattle.rules.specs.declared.Judged.{Judged}
 use Rattle.rules.specs.Limits.{rowWords, mostRows}
 use Rattle.rules.specs.Rows.{rolesOf, rowsOf, rowOf, absent, rowAt, isExpression}
 use Rattle.rules.specs.Judging.{wrongCount, wrongWord, wrongWords, wrongChild, wrongChildren, children, places, wrongParents, tooDeep, lowest, orElse, judgeRows, judge}
-use Rattle.rules.specs.Sound.{Fits, SoundRow, Shallow, Sound}
+use Rattle.rules.specs.Sound.{Fits, SoundRow, Fitting, Shallow, Sound}
 
 -- ---- the rows of a table of words
 
@@ -75,6 +75,25 @@ unfolding lowest
 lowest-next number applies i n h =
     ap (λ (b : Bool). cond b (Judged.Refused number i) (lowest number applies (i + 1) n)) h
 
+-- a search through n rows: where it starts, at a row to which the refusal does not apply, at one to which it does, at its end
+module _ (number : ℕ) (applies : ℕ → Bool) (i n : ℕ) {given : Judged} where
+  pub lowest-step :
+      i < n → applies i ≡ false → lowest number applies i (n - i) ≡ given → lowest number applies (i + 1) (n - (i + 1)) ≡ given
+  lowest-step more h e =
+      let left : n - i ≡ suc (n - (i + 1)) = omega arith in
+      sym (ap (lowest number applies i) left ∙ lowest-next number applies i (n - (i + 1)) h) ∙ e
+
+  pub lowest-found : i < n → applies i ≡ true → lowest number applies i (n - i) ≡ given → Judged.Refused number i ≡ given
+  lowest-found more h e =
+      let left : n - i ≡ suc (n - (i + 1)) = omega arith in
+      sym (ap (lowest number applies i) left ∙ lowest-here number applies i (n - (i + 1)) h) ∙ e
+
+  pub lowest-end : n ≤ i → lowest number applies i (n - i) ≡ given → Judged.Accepted ≡ given
+  unfolding lowest
+  lowest-end done e =
+      let left : n - i ≡ 0 = omega arith in
+      sym (ap (lowest number applies i) left) ∙ e
+
 accepted≢refused : {A : Type 0} {number row : ℕ} → Judged.Refused number row ≡ Judged.Accepted → A
 accepted≢refused e = let z : _≡_ {A = ℕ} 0 1 = cc in absurd (omega arith)
 
@@ -104,9 +123,37 @@ unfolding orElse
 orElse-accepted Judged.Accepted b e = (refl, e)
 orElse-accepted (Judged.Refused number row) b e = accepted≢refused e
 
+-- ---- the judgement, put together from the refusals
+
+pub judge-count : (words : List ℕ) → wrongCount words ≡ true → Judged.Refused 1 0 ≡ judge words
+unfolding judge orElse
+judge-count words h =
+    sym (ap (λ (b : Bool). orElse (cond b (Judged.Refused 1 0) Judged.Accepted) (judgeRows (rowsOf words))) h)
+
+-- the first of the refusals 2 to 5 that is given; each is looked at only where those before it are not given
+pub judge-first :
+    (words : List ℕ) (two three four five : Judged) → wrongCount words ≡ false
+    → two ≡ lowest 2 (λ i. wrongWords (rowAt (rowsOf words) i)) 0 (length (rowsOf words))
+    → three ≡ lowest 3 (λ i. wrongChildren (rowsOf words) i (rowAt (rowsOf words) i)) 0 (length (rowsOf words))
+    → four ≡ lowest 4 (wrongParents (rowsOf words) (children (rowsOf words))) 0 (length (rowsOf words))
+    → five ≡ lowest 5 (tooDeep (rowsOf words)) 0 (length (rowsOf words))
+    → orElse two (orElse three (orElse four five)) ≡ judge words
+unfolding judge judgeRows orElse
+judge-first words two three four five h e₂ e₃ e₄ e₅ =
+    (λ i. orElse (e₂ i) (orElse (e₃ i) (orElse (e₄ i) (e₅ i))))
+    ∙ sym (ap (λ (b : Bool). orElse (cond b (Judged.Refused 1 0) Judged.Accepted) (judgeRows (rowsOf words))) h)
+
+pub orElse-stops : {number row : ℕ} (first next : Judged) → first ≡ Judged.Refused number row → first ≡ orElse first next
+unfolding orElse
+orElse-stops first next e = e ∙ sym (ap (λ (j : Judged). orElse j next) e)
+
+pub orElse-passes : (first next : Judged) → first ≡ Judged.Accepted → next ≡ orElse first next
+unfolding orElse
+orElse-passes first next e = sym (ap (λ (j : Judged). orElse j next) e)
+
 -- ---- what "accepted" means
 
-or-false : (a b : Bool) → (a || b) ≡ false → (a ≡ false) × (b ≡ false)
+pub or-false : (a b : Bool) → (a || b) ≡ false → (a ≡ false) × (b ≡ false)
 or-false true b e = absurd (true≢false e)
 or-false false b e = (refl, e)
 
@@ -139,6 +186,14 @@ sound-row rows i row a b =
       q = fits rows i (rolesOf (row .kind) .q) (row .q) (a₂ .1) (b₂ .1);
       r = fits rows i (rolesOf (row .kind) .r) (row .r) (a₁ .1) (b₁ .1);
     }
+
+-- the rows of a table to which neither refusal 2 nor refusal 3 applies
+pub fitting-rows :
+    (rows : List Row) → lowest 2 (λ i. wrongWords (rowAt rows i)) 0 (length rows) ≡ Judged.Accepted
+    → lowest 3 (λ i. wrongChildren rows i (rowAt rows i)) 0 (length rows) ≡ Judged.Accepted → Fitting rows
+fitting-rows rows e₂ e₃ i h =
+    sound-row rows i (rowAt rows i) (lowest-accepted 2 _ 0 (length rows) e₂ i (omega arith) (omega arith))
+    (lowest-accepted 3 _ 0 (length rows) e₃ i (omega arith) (omega arith))
 
 shallow : (rows : List Row) (i : ℕ) → tooDeep rows i ≡ false → Shallow rows i
 unfolding tooDeep
@@ -176,16 +231,14 @@ sound-rows rows some few e =
     record {
       some = some;
       few = few;
-      row = λ i h.
-          sound-row rows i (rowAt rows i) (lowest-accepted 2 _ 0 (length rows) (e₂ .0) i (omega arith) (omega arith))
-          (lowest-accepted 3 _ 0 (length rows) (e₃ .0) i (omega arith) (omega arith));
+      row = fitting-rows rows (e₂ .0) (e₃ .0);
       parent = λ i h. one-parent rows i h (lowest-accepted 4 _ 0 (length rows) (e₄ .0) i (omega arith) (omega arith));
       last = λ i h. last-statement rows i h (lowest-accepted 4 _ 0 (length rows) (e₄ .0) i (omega arith) (omega arith));
       depth = λ i h. shallow rows i (lowest-accepted 5 _ 0 (length rows) (e₄ .1) i (omega arith) (omega arith));
     }
 
 -- the words of an accepted table make whole rows, as many as refusal 1 allows
-right-count :
+pub right-count :
     (words : List ℕ) → wrongCount words ≡ false
     → (length words ≡ length (rowsOf words) * rowWords) × (0 < length (rowsOf words)) × (length (rowsOf words) ≤ mostRows)
 unfolding wrongCount

@@ -1,8 +1,12 @@
 -- The laws of the rules, which every crate above cites, and the claims of the worked runs.
 pub mod MarkLaws
+pub mod RowLaws
 pub mod JudgeLaws
+pub mod RefusalLaws
 pub mod TreeLaws
 pub mod ValueLaws
+pub mod AgreeLaws
+pub mod RangeLaws
 pub mod RunLaws
 pub mod RunInvariants
 pub mod PlainLaws

@@ -399,6 +399,14 @@ put-false (suc w) m (suc i) hi hm =
     ∙ ap₂ (λ (x y : ℕ). bitAnd (m / 2) x * 2 + min (m % 2) y) half odd
     ∙ ap (λ (y : ℕ). bitAnd (m / 2) ((2 ^ w - 1) - 2 ^ i) * 2 + y) (omega arith))
 
+pub only-power : (i : ℕ) → only i ≡ 2 ^ i
+unfolding only none
+only-power i = put-true 0 i
+
+pub union-or : (a b : ℕ) → union a b ≡ bitOr a b
+unfolding union
+union-or a b = refl
+
 pub shift-one : (w i : ℕ) → i < w → (1 * 2 ^ i) % 2 ^ w ≡ 2 ^ i
 shift-one w i h = let l : 2 ^ i < 2 ^ w = pow-lt h in ap (λ (n : ℕ). n % 2 ^ w) (omega arith) ∙ mod-eq-of-lt l
 

@@ -2,14 +2,16 @@
 use Prim.Native.Nat.{ℕ, zero, suc, _-_, _≤_, _<_}
 use native.Mathlib.Omega.{arith}
 use mathlib.Core.List.{List}
-use mathlib.Core.Path.{_≡_, refl, sym, ap, ap₂, subst}
+use mathlib.Core.Path.{_≡_, refl, sym, ap, ap₂, _∙_, subst}
 use lib.ListN.{length}
+use Rattle.rules.specs.declared.Depth.{Depth}
 use Rattle.rules.specs.declared.Kind.{Kind}
 use Rattle.rules.specs.declared.Row.{Row}
 use Rattle.rules.specs.Limits.{width, highestChannel}
 use Rattle.rules.specs.Rows.{rolesOf, rowAt}
-use Rattle.rules.specs.Trees.{Expr, binary, Stmt, skip, assign, sequence, if, while, output, operatorOf, exprNode, stmtNode, exprIn, exprAt, stmtIn, stmtAt, recipe}
-use Rattle.rules.specs.Sound.{SoundRow, Sound}
+use Rattle.rules.specs.Trees.{Expr, binary, Stmt, skip, assign, sequence, if, while, output, operatorOf, exprNode, stmtNode, exprIn, exprAt, stmtIn, stmtAt, recipe, height, nesting, loopNesting}
+use Rattle.rules.specs.Sound.{SoundRow, Fitting, Sound}
+use Rattle.rules.specs.OnePass.{depthAt, depthBy}
 
 -- two readings of the children that agree below row i make one tree of row i
 expr-agree :
@@ -45,7 +47,32 @@ stmt-agree rows i row test f g same Kind.Variable sound = refl
 stmt-agree rows i row test f g same Kind.Binary sound = refl
 stmt-agree rows i row test f g same Kind.Unknown sound = refl
 
-module _ (rows : List Row) (sound : Sound rows) where
+-- the depth of a row's tree, where the depths below it are known
+depth-node :
+    (rows : List Row) (i : ℕ) (row : Row) (depth : ℕ → Depth) → ((j : ℕ) → j < i → depth j ≡ depthAt rows j) → (kind : Kind)
+    → SoundRow rows i kind row
+    → depthBy kind (depth (row .p)) (depth (row .q)) (depth (row .r))
+    ≡ record {
+      height = height (exprNode (exprAt rows) row kind);
+      nesting = nesting (stmtNode (exprAt rows) (stmtAt rows) i row kind);
+      loops = loopNesting (stmtNode (exprAt rows) (stmtAt rows) i row kind);
+    }
+unfolding depthAt depthBy exprNode stmtNode rolesOf
+depth-node rows i row depth below Kind.Skip sound = refl
+depth-node rows i row depth below Kind.Assign sound = refl
+depth-node rows i row depth below Kind.Sequence sound =
+    ap₂ (λ (p q : Depth). depthBy Kind.Sequence p q q) (below (row .p) (sound .p .0)) (below (row .q) (sound .q .0))
+depth-node rows i row depth below Kind.If sound =
+    ap₂ (λ (q r : Depth). depthBy Kind.If q q r) (below (row .q) (sound .q .0)) (below (row .r) (sound .r .0))
+depth-node rows i row depth below Kind.While sound = ap (λ (q : Depth). depthBy Kind.While q q q) (below (row .q) (sound .q .0))
+depth-node rows i row depth below Kind.Output sound = refl
+depth-node rows i row depth below Kind.Constant sound = refl
+depth-node rows i row depth below Kind.Variable sound = refl
+depth-node rows i row depth below Kind.Binary sound =
+    ap₂ (λ (q r : Depth). depthBy Kind.Binary q q r) (below (row .q) (sound .q .0)) (below (row .r) (sound .r .0))
+depth-node rows i row depth below Kind.Unknown sound = refl
+
+module _ (rows : List Row) (fitting : Fitting rows) where
   -- enough levels for row i: any more give the same tree
   expr-levels : (m n i : ℕ) → i < length rows → i < m → i < n → exprIn m rows i ≡ exprIn n rows i
   unfolding exprIn
@@ -53,7 +80,7 @@ module _ (rows : List Row) (sound : Sound rows) where
   expr-levels (suc m) zero i h hm hn = absurd (omega arith)
   expr-levels (suc m) (suc n) i h hm hn =
       expr-agree rows i (rowAt rows i) (exprIn m rows) (exprIn n rows)
-      (λ j k. expr-levels m n j (omega arith) (omega arith) (omega arith)) (rowAt rows i .kind) (sound .row i h)
+      (λ j k. expr-levels m n j (omega arith) (omega arith) (omega arith)) (rowAt rows i .kind) (fitting i h)
 
   stmt-levels : (m n i : ℕ) → i < length rows → i < m → i < n → stmtIn m rows i ≡ stmtIn n rows i
   unfolding stmtIn
@@ -61,19 +88,38 @@ module _ (rows : List Row) (sound : Sound rows) where
   stmt-levels (suc m) zero i h hm hn = absurd (omega arith)
   stmt-levels (suc m) (suc n) i h hm hn =
       stmt-agree rows i (rowAt rows i) (exprAt rows) (stmtIn m rows) (stmtIn n rows)
-      (λ j k. stmt-levels m n j (omega arith) (omega arith) (omega arith)) (rowAt rows i .kind) (sound .row i h)
+      (λ j k. stmt-levels m n j (omega arith) (omega arith) (omega arith)) (rowAt rows i .kind) (fitting i h)
 
-  pub expr-law : (i : ℕ) → i < length rows → exprAt rows i ≡ exprNode (exprAt rows) (rowAt rows i) (rowAt rows i .kind)
+  pub expr-of-fitting : (i : ℕ) → i < length rows → exprAt rows i ≡ exprNode (exprAt rows) (rowAt rows i) (rowAt rows i .kind)
   unfolding exprAt exprIn
-  expr-law i h =
+  expr-of-fitting i h =
       expr-agree rows i (rowAt rows i) (exprIn i rows) (exprAt rows)
-      (λ j k. expr-levels i (suc j) j (omega arith) k (omega arith)) (rowAt rows i .kind) (sound .row i h)
+      (λ j k. expr-levels i (suc j) j (omega arith) k (omega arith)) (rowAt rows i .kind) (fitting i h)
+
+  pub stmt-of-fitting : (i : ℕ) → i < length rows → stmtAt rows i ≡ stmtNode (exprAt rows) (stmtAt rows) i (rowAt rows i) (rowAt rows i .kind)
+  unfolding stmtAt stmtIn
+  stmt-of-fitting i h =
+      stmt-agree rows i (rowAt rows i) (exprAt rows) (stmtIn i rows) (stmtAt rows)
+      (λ j k. stmt-levels i (suc j) j (omega arith) k (omega arith)) (rowAt rows i .kind) (fitting i h)
+
+  -- a row's depth from those of the rows below it
+  pub depth-law :
+      (depth : ℕ → Depth) (i : ℕ) → i < length rows → ((j : ℕ) → j < i → depth j ≡ depthAt rows j)
+      → depthBy (rowAt rows i .kind) (depth (rowAt rows i .p)) (depth (rowAt rows i .q)) (depth (rowAt rows i .r)) ≡ depthAt rows i
+  unfolding depthAt
+  depth-law depth i h below =
+      depth-node rows i (rowAt rows i) depth below (rowAt rows i .kind) (fitting i h)
+      ∙ ap₂
+      (λ (e : Expr) (s : Stmt). record { height = height e; nesting = nesting s; loops = loopNesting s })
+      (sym (expr-of-fitting i h))
+      (sym (stmt-of-fitting i h))
+
+module _ (rows : List Row) (sound : Sound rows) where
+  pub expr-law : (i : ℕ) → i < length rows → exprAt rows i ≡ exprNode (exprAt rows) (rowAt rows i) (rowAt rows i .kind)
+  expr-law = expr-of-fitting rows (sound .row)
 
   pub stmt-law : (i : ℕ) → i < length rows → stmtAt rows i ≡ stmtNode (exprAt rows) (stmtAt rows) i (rowAt rows i) (rowAt rows i .kind)
-  unfolding stmtAt stmtIn
-  stmt-law i h =
-      stmt-agree rows i (rowAt rows i) (exprAt rows) (stmtIn i rows) (stmtAt rows)
-      (λ j k. stmt-levels i (suc j) j (omega arith) k (omega arith)) (rowAt rows i .kind) (sound .row i h)
+  stmt-law = stmt-of-fitting rows (sound .row)
 
 -- ---- induction over the statements of a judged table
 

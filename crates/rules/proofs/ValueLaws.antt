@@ -1,83 +1,132 @@
--- Laws of an expression's value and level, and of what a statement may assign.
-use Prim.Native.Nat.{ℕ, _<_, _^_, _-_}
+-- The laws of the operators, of an expression's value and level, and of what a statement may assign.
+use Prim.Native.Nat.{ℕ, _+_, _*_, _/_, _%_, _^_, _≤_, _<_}
+use native.Mathlib.Nat.{lt-of-le-of-lt, le-of-lt, mul-le-mul-left, mul-lt-mul-of-pos-right}
 use native.Mathlib.Omega.{arith}
-use mathlib.Core.Bool.{Bool, true, false, cond, not, true≢false}
-use mathlib.Core.List.{List}
-use mathlib.Core.Path.{_≡_, refl, sym, ap, ap₂, _∙_, subst}
-use lib.Dec.{T, eqb}
-use lib.ListN.{length, getD}
+use mathlib.Core.Bool.{Bool, cond}
+use mathlib.Core.List.{List, [], _∷_}
+use mathlib.Core.Path.{_≡_, refl, ap}
+use lib.ListN.{getD}
+use lib.Pow.{pow-pos}
+use borrow.Author.Tests.{eq-eqb, ne-eqb, lt-ltb, le-ltb}
+use Rattle.rules.specs.declared.Kind.{Kind}
+use Rattle.rules.specs.declared.Operator.{Operator}
 use Rattle.rules.specs.declared.Row.{Row}
-use Rattle.rules.specs.Limits.{width}
-use Rattle.rules.specs.Marks.{none, has, only, union, _⊆_, provisional}
-use Rattle.rules.specs.declared.Judged.{Judged}
-use Rattle.rules.specs.Rows.{rowsOf}
-use Rattle.rules.specs.Judging.{judge}
-use Rattle.rules.specs.Trees.{Expr, constant, variable, binary, Stmt, stmtAt, recipe}
-use Rattle.rules.specs.Values.{operate, value, holds, level, mayAssign}
-use Rattle.rules.specs.Sound.{Sound}
-use Rattle.rules.proofs.MarkLaws.{has-only-same, settled-union, has-provisional, provisional-mono, none-subset, subset-refl, subset-union-left, subset-union-right, union-least, none-lt, only-lt, union-lt}
-use Rattle.rules.proofs.JudgeLaws.{accepted-sound}
-use Rattle.rules.proofs.TreeLaws.{EachKind, stmt-induction, recipe-law}
+use Rattle.rules.specs.Limits.{wordBits}
+use Rattle.rules.specs.Marks.{none, has, only, union}
+use Rattle.rules.specs.Trees.{Expr, Stmt, operatorOf, exprNode, stmtNode}
+use Rattle.rules.specs.Values.{operate, value, level, mayAssign}
+use Rattle.rules.proofs.RowLaws.{Arm, kindAt, Other}
 
--- ---- two memories that are equal in every settled variable give a settled expression one value
+-- ---- the operators by their numbers
 
-module _ (marks : ℕ) (m m′ : List ℕ) (same : (v : ℕ) → has marks v ≡ false → getD m v 0 ≡ getD m′ v 0) where
-  pub value-agree : (e : Expr) → provisional (level marks e) ≡ false → value m e ≡ value m′ e
-  value-agree (constant c) settled = refl
-  value-agree (variable v) settled = by (has marks v) refl
-    where
-      by : (b : Bool) → has marks v ≡ b → getD m v 0 ≡ getD m′ v 0
-      by false h = same v h
-      by true h =
-          absurd
-          (true≢false
-          (sym (has-provisional (only v) v (has-only-same v))
-          ∙ sym (ap (λ (b : Bool). provisional (cond b (only v) none)) h)
-          ∙ settled))
-  value-agree (binary o a b) settled =
-      let both = settled-union (level marks a) (level marks b) settled in
-      ap₂ (operate o) (value-agree a (both .0)) (value-agree b (both .1))
+pub operators-law :
+    (operatorOf 0 ≡ Operator.Sum)
+    × (operatorOf 1 ≡ Operator.Difference)
+    × (operatorOf 2 ≡ Operator.Product)
+    × (operatorOf 3 ≡ Operator.Quotient)
+    × (operatorOf 4 ≡ Operator.Equal)
+unfolding operatorOf
+operators-law = (refl, refl, refl, refl, refl)
 
-  pub holds-agree : (e : Expr) → provisional (level marks e) ≡ false → holds m e ≡ holds m′ e
-  unfolding holds
-  holds-agree e settled = ap (λ (x : ℕ). not (eqb x 0)) (value-agree e settled)
+pub operator-less : (n : ℕ) → Other (4 ∷ 3 ∷ 2 ∷ 1 ∷ 0 ∷ []) n → operatorOf n ≡ Operator.Less
+unfolding operatorOf
+operator-less n other =
+    simp (
+      ne-eqb n 4 (other .1),
+      ne-eqb n 3 (other .0 .1),
+      ne-eqb n 2 (other .0 .0 .1),
+      ne-eqb n 1 (other .0 .0 .0 .1),
+      ne-eqb n 0 (other .0 .0 .0 .0 .1),
+    )
 
--- ---- more marks, higher levels
+-- ---- the operators' values
 
-pub level-mono : (a b : ℕ) → a ⊆ b → (e : Expr) → level a e ⊆ level b e
-level-mono a b sub (constant c) = subset-refl none
-level-mono a b sub (variable v) = by (has a v) (has b v) (sub v)
-  where
-    by : (x y : Bool) → (T x → T y) → cond x (only v) none ⊆ cond y (only v) none
-    by true true f = subset-refl (only v)
-    by true false f = absurd (f tt)
-    by false y f = none-subset (cond y (only v) none)
-level-mono a b sub (binary o d e) =
-    union-least (level a d) (level a e) (union (level b d) (level b e))
-    (λ i h. subset-union-left (level b d) (level b e) i (level-mono a b sub d i h))
-    (λ i h. subset-union-right (level b d) (level b e) i (level-mono a b sub e i h))
+pub sum-law : (a b : ℕ) → operate Operator.Sum a b ≡ (a + b) % 2 ^ wordBits
+unfolding operate
+sum-law a b = refl
 
-pub level-rises : (a b : ℕ) → a ⊆ b → (e : Expr) → provisional (level a e) ≡ true → provisional (level b e) ≡ true
-level-rises a b sub e h = provisional-mono (level a e) (level b e) (level-mono a b sub e) h
+-- the difference is what the subtrahend added to wraps back
+pub difference-law : (a b r : ℕ) → b < 2 ^ wordBits → r < 2 ^ wordBits → (r + b) % 2 ^ wordBits ≡ a → r ≡ operate Operator.Difference a b
+unfolding operate
+difference-law a b r hb hr e = omega arith
 
--- ---- a judged table assigns only variables that there are
+pub product-law : (a b : ℕ) → operate Operator.Product a b ≡ (a * b) % 2 ^ wordBits
+unfolding operate
+product-law a b = refl
 
-in-range : EachKind (λ i s. mayAssign s < 2 ^ width)
-in-range = record {
-  of-skip = λ i. none-lt width;
-  of-assign = λ i v e h. only-lt width v h;
-  of-sequence = λ i j k s t hj hk p q. union-lt width (mayAssign s) (mayAssign t) p q;
-  of-if = λ i j k e s t hj hk p q. union-lt width (mayAssign s) (mayAssign t) p q;
-  of-while = λ i j e s hj p. p;
-  of-output = λ i channel e h. none-lt width;
-}
+-- the whole product of two words fits a word of twice as many bits
+pub product-fits : (a b : ℕ) → a < 2 ^ wordBits → b < 2 ^ wordBits → a * b < 2 ^ (wordBits + wordBits)
+product-fits a b ha hb =
+    lt-of-le-of-lt (mul-le-mul-left a (le-of-lt hb)) (mul-lt-mul-of-pos-right {k = 2 ^ wordBits} ha (pow-pos wordBits))
 
-pub may-assign-range : (rows : List Row) → Sound rows → (i : ℕ) → i < length rows → mayAssign (stmtAt rows i) < 2 ^ width
-may-assign-range rows sound i h = stmt-induction rows sound (λ i s. mayAssign s < 2 ^ width) in-range i h
+pub quotient-none : (a b : ℕ) → b ≡ 0 → operate Operator.Quotient a b ≡ 0
+unfolding operate
+quotient-none a b h = ap (λ (t : Bool). cond t 0 (a / b)) (eq-eqb b 0 h)
 
-pub recipe-range : (words : List ℕ) → judge words ≡ Judged.Accepted → mayAssign (recipe (rowsOf words)) < 2 ^ width
-recipe-range words e =
-    let sound : Sound (rowsOf words) = accepted-sound words e in
-    let some : 0 < length (rowsOf words) = sound .some in
-    subst (λ (s : Stmt). mayAssign s < 2 ^ width) (sym (recipe-law (rowsOf words)))
-    (may-assign-range (rowsOf words) sound (length (rowsOf words) - 1) (omega arith))
+pub quotient-law : (a b : ℕ) → (b ≡ 0 → ⊥) → operate Operator.Quotient a b ≡ a / b
+unfolding operate
+quotient-law a b h = ap (λ (t : Bool). cond t 0 (a / b)) (ne-eqb b 0 h)
+
+pub equal-law : (a b : ℕ) → a ≡ b → operate Operator.Equal a b ≡ 1
+unfolding operate
+equal-law a b h = ap (λ (t : Bool). cond t 1 0) (eq-eqb a b h)
+
+pub unequal-law : (a b : ℕ) → (a ≡ b → ⊥) → operate Operator.Equal a b ≡ 0
+unfolding operate
+unequal-law a b h = ap (λ (t : Bool). cond t 1 0) (ne-eqb a b h)
+
+pub less-law : (a b : ℕ) → a < b → operate Operator.Less a b ≡ 1
+unfolding operate
+less-law a b h = ap (λ (t : Bool). cond t 1 0) (lt-ltb a b h)
+
+pub not-less-law : (a b : ℕ) → b ≤ a → operate Operator.Less a b ≡ 0
+unfolding operate
+not-less-law a b h = ap (λ (t : Bool). cond t 1 0) (le-ltb a b h)
+
+-- ---- value, level and may-assign of a row, by the arms of a match on its kind
+
+module _ (child : ℕ → Expr) (row : Row) where
+  pub value-arms :
+      (memory : List ℕ)
+      → Arm kindAt (λ (kind : Kind). value memory (exprNode child row kind)) (row .p) (6 ∷ [])
+      × Arm kindAt (λ (kind : Kind). value memory (exprNode child row kind)) (getD memory (row .p) 0) (7 ∷ [])
+      × Arm
+      kindAt
+      (λ (kind : Kind). value memory (exprNode child row kind))
+      (operate (operatorOf (row .p)) (value memory (child (row .q))) (value memory (child (row .r))))
+      (8 ∷ [])
+      × Arm kindAt (λ (kind : Kind). value memory (exprNode child row kind)) 0 (0 ∷ 1 ∷ 2 ∷ 3 ∷ 4 ∷ 5 ∷ 9 ∷ [])
+  unfolding exprNode
+  value-arms memory = (record { each = refl }, record { each = refl }, record { each = refl }, record { each = refl })
+
+  pub level-arms :
+      (marks : ℕ)
+      → Arm kindAt (λ (kind : Kind). level marks (exprNode child row kind)) none (6 ∷ [])
+      × Arm kindAt (λ (kind : Kind). level marks (exprNode child row kind)) (cond (has marks (row .p)) (only (row .p)) none) (7 ∷ [])
+      × Arm
+      kindAt
+      (λ (kind : Kind). level marks (exprNode child row kind))
+      (union (level marks (child (row .q))) (level marks (child (row .r))))
+      (8 ∷ [])
+      × Arm kindAt (λ (kind : Kind). level marks (exprNode child row kind)) none (0 ∷ 1 ∷ 2 ∷ 3 ∷ 4 ∷ 5 ∷ 9 ∷ [])
+  unfolding exprNode
+  level-arms marks = (record { each = refl }, record { each = refl }, record { each = refl }, record { each = refl })
+
+pub assign-arms :
+    (test : ℕ → Expr) (child : ℕ → Stmt) (i : ℕ) (row : Row)
+    → Arm kindAt (λ (kind : Kind). mayAssign (stmtNode test child i row kind)) (only (row .p)) (1 ∷ [])
+    × Arm
+    kindAt
+    (λ (kind : Kind). mayAssign (stmtNode test child i row kind))
+    (union (mayAssign (child (row .p))) (mayAssign (child (row .q))))
+    (2 ∷ [])
+    × Arm
+    kindAt
+    (λ (kind : Kind). mayAssign (stmtNode test child i row kind))
+    (union (mayAssign (child (row .q))) (mayAssign (child (row .r))))
+    (3 ∷ [])
+    × Arm kindAt (λ (kind : Kind). mayAssign (stmtNode test child i row kind)) (mayAssign (child (row .q))) (4 ∷ [])
+    × Arm kindAt (λ (kind : Kind). mayAssign (stmtNode test child i row kind)) none (0 ∷ 5 ∷ 6 ∷ 7 ∷ 8 ∷ 9 ∷ [])
+unfolding stmtNode
+assign-arms test child i row =
+    (record { each = refl }, record { each = refl }, record { each = refl }, record { each = refl }, record { each = refl })

@@ -4,6 +4,7 @@ pub mod Rows
 pub mod Trees
 pub mod Judging
 pub mod Sound
+pub mod OnePass
 pub mod Marks
 pub mod Values
 pub mod Running

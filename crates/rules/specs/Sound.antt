@@ -30,6 +30,10 @@ pub record SoundRow (rows : List Row) (i : ℕ) (kind : Kind) (row : Row) : Type
   pub q : Fits rows i (rolesOf kind .q) (row .q)
   pub r : Fits rows i (rolesOf kind .r) (row .r)
 
+-- every row is of a known kind and has the words that its kind asks
+abbrev pub Fitting : List Row → Type 0
+Fitting rows = (i : ℕ) → i < length rows → SoundRow rows i (rowAt rows i .kind) (rowAt rows i)
+
 -- no tree of the table is too deep
 pub record Shallow (rows : List Row) (i : ℕ) : Type 0 where
   pub low : height (exprAt rows i) ≤ mostHeight
@@ -40,7 +44,7 @@ pub record Shallow (rows : List Row) (i : ℕ) : Type 0 where
 pub record Sound (rows : List Row) : Type 0 where
   pub some : 0 < length rows
   pub few : length rows ≤ mostRows
-  pub row : (i : ℕ) → i < length rows → SoundRow rows i (rowAt rows i .kind) (rowAt rows i)
+  pub row : Fitting rows
   pub parent : (i : ℕ) → i + 1 < length rows → places i (children rows) ≡ 1
   pub last : (i : ℕ) → i + 1 ≡ length rows → isExpression (rowAt rows i .kind) ≡ false
   pub depth : (i : ℕ) → i < length rows → Shallow rows i

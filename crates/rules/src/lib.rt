@@ -55,6 +55,13 @@ pub struct Row {
     pub r: u32,
 }
 
+// How deep the tree of a row is: its height as an expression, its nesting and loop nesting as a statement.
+pub struct Depth {
+    pub height: u8,
+    pub nesting: u8,
+    pub loops: u8,
+}
+
 // "carried with the run as a fixed set of 32 numbers"
 pub struct Memory {
     pub words: [u32; VARIABLES],

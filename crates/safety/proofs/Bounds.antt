@@ -19,7 +19,7 @@ use Rattle.rules.specs.Sound.{Sound}
 use Rattle.rules.proofs.MarkLaws.{none-lt, put-lt, union-lt, union-lt-left, union-lt-right, only-in-range}
 use Rattle.rules.proofs.JudgeLaws.{accepted-sound}
 use Rattle.rules.proofs.TreeLaws.{EachKind, stmt-induction, recipe-law}
-use Rattle.rules.proofs.ValueLaws.{recipe-range}
+use Rattle.rules.proofs.RangeLaws.{recipe-range}
 use Rattle.rules.proofs.RunInvariants.{Keeps, run-keeps}
 use Rattle.rules.proofs.AnswerLaws.{start-law}
 use Rattle.safety.specs.Demands.{Bounded, RunsStayBounded}

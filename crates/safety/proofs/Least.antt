@@ -17,7 +17,8 @@ use Rattle.rules.specs.LevelRules.{under, Choice, result, Solves, Within, faili
 use Rattle.rules.specs.LevelCheck.{walk, lowestOf, checkedOf}
 use Rattle.rules.specs.Answers.{saidOfCheck, Advised}
 use Rattle.rules.proofs.MarkLaws.{subset-refl, subset-union-left, subset-union-right, union-least, union-mono, put-mono, put-adds, union-lt-left, union-lt-right}
-use Rattle.rules.proofs.ValueLaws.{level-rises, recipe-range}
+use Rattle.rules.proofs.AgreeLaws.{level-rises}
+use Rattle.rules.proofs.RangeLaws.{recipe-range}
 use Rattle.rules.proofs.LevelLaws.{Rested, rounds-law}
 use Rattle.rules.proofs.AnswerLaws.{advice-accepted}
 use Rattle.safety.specs.Stations.{Among}

@@ -21,7 +21,7 @@ use Rattle.rules.specs.LevelRules.{under, Choice, result, Solves, failing}
 use Rattle.rules.specs.LevelCheck.{walk, checkedOf}
 use Rattle.rules.specs.Answers.{verdict, pass, Whole, answer, termsOf, Advised, advice}
 use Rattle.rules.proofs.MarkLaws.{subset-refl, subset-union-left, subset-union-right, union-least, none-subset, put-mono, put-union}
-use Rattle.rules.proofs.ValueLaws.{recipe-range}
+use Rattle.rules.proofs.RangeLaws.{recipe-range}
 use Rattle.rules.proofs.RunLaws.{state, final, run-done, run-spent, run-sequence, run-skip, run-assign, run-close-empty, run-close, run-then, run-else, run-turn, run-leave, run-roomless, run-record}
 use Rattle.rules.proofs.AnswerLaws.{Call, ran, away, call, advice-accepted, checked-unique}
 use Rattle.safety.specs.Demands.{PassedIsNeverStopped}

@@ -16,7 +16,7 @@ use Rattle.rules.specs.Values.{value, holds, level, mayAssign}
 use Rattle.rules.specs.Running.{Item, statement, close, Record, Terms, context, push, outcome}
 use Rattle.rules.specs.Answers.{verdict, Whole, reached}
 use Rattle.rules.proofs.MarkLaws.{has-only-same, union-none-right, union-comm, union-assoc, union-self, put-union, not-in-union, subset-union-left}
-use Rattle.rules.proofs.ValueLaws.{level-rises}
+use Rattle.rules.proofs.AgreeLaws.{level-rises}
 use Rattle.rules.proofs.RunLaws.{state, final, run-spent, run-sequence, run-skip, run-assign, run-close, run-then, run-else, run-turn, run-leave, run-denied, run-roomless, run-record}
 use Rattle.safety.specs.Stations.{settledRecords}
 

@@ -16,7 +16,7 @@ use Rattle.rules.specs.Values.{value, holds, level, mayAssign}
 use Rattle.rules.specs.Running.{Item, statement, close, Record, Terms, push}
 use Rattle.rules.specs.Answers.{verdict, Whole}
 use Rattle.rules.proofs.MarkLaws.{has-put-same, has-put-other, not-in-union}
-use Rattle.rules.proofs.ValueLaws.{value-agree, holds-agree}
+use Rattle.rules.proofs.AgreeLaws.{value-agree, holds-agree}
 use Rattle.rules.proofs.RunLaws.{state, final, run-done, run-spent, run-sequence, run-skip, run-assign, run-close-empty, run-then, run-else, run-turn, run-leave, run-denied, run-roomless, run-record}
 use Rattle.rules.proofs.RunInvariants.{Keeps, run-keeps}
 use Rattle.safety.specs.Stations.{settledRecords, Begins}

@@ -1,0 +1,4 @@
+// Expressions: mark sets, the operators, memory, an expression's value and level, and what a statement may assign.
+pub mod marks;
+pub mod memory;
+pub mod operators;

@@ -1,0 +1,55 @@
+// The operators: "0 sum, 1 difference, 2 product (all modulo 2^32), 3 whole quotient, with 0 where the divisor is 0, 4 equal,
+// 5 less (both give 1 or 0)".
+use std::num::wrapping_add_u32;
+use std::num::wrapping_sub_u32;
+ghost use mathlib.Core.Path.{_≡_};
+ghost use Rattle.rules.specs.declared.Operator.{Operator};
+ghost use Rattle.rules.specs.Trees.{operatorOf};
+ghost use Rattle.rules.specs.Values.{operate};
+
+fn product(a: u32, b: u32) -> u32
+    ensures { λ r. ⌜ r ≡ operate Operator.Product a b ⌝ }
+{
+    (a as u64 * b as u64 % 4294967296) as u32
+}
+
+fn quotient(a: u32, b: u32) -> u32
+    ensures { λ r. ⌜ r ≡ operate Operator.Quotient a b ⌝ }
+{
+    if b == 0 {
+        return 0;
+    }
+    a / b
+}
+
+fn equal(a: u32, b: u32) -> u32
+    ensures { λ r. ⌜ r ≡ operate Operator.Equal a b ⌝ }
+{
+    if a == b {
+        return 1;
+    }
+    0
+}
+
+fn less(a: u32, b: u32) -> u32
+    ensures { λ r. ⌜ r ≡ operate Operator.Less a b ⌝ }
+{
+    if a < b {
+        return 1;
+    }
+    0
+}
+
+// The operator's value. A number over 5 is read as less; refusal 2 is given for it.
+pub fn operated(operator: u32, a: u32, b: u32) -> u32
+    ensures { λ r. ⌜ r ≡ operate (operatorOf operator) a b ⌝ }
+{
+    match operator {
+        0 => wrapping_add_u32(a, b),
+        1 => wrapping_sub_u32(a, b),
+        2 => product(a, b),
+        3 => quotient(a, b),
+        4 => equal(a, b),
+        _ => less(a, b),
+    }
+}

@@ -1,0 +1,3 @@
+-- The laws of what the judge's passes hold.
+mod CountLaws
+mod DepthLaws

@@ -1,0 +1,70 @@
+-- `table::words::judge_words` meets its contract: what is left to search gives the same answer as the whole.
+use Prim.Native.Nat.{_-_, _≤_}
+use native.Mathlib.Omega.{arith}
+use mathlib.Core.Path.{_≡_, sym, ap, _∙_}
+use lib.ListN.{length}
+use Rattle.rules.specs.Rows.{rowsOf, rowAt}
+use Rattle.rules.specs.Judging.{wrongWords, lowest}
+use Rattle.rules.proofs.JudgeLaws.{lowest-step, lowest-found, lowest-end}
+use Rattle.rules.proofs.RowLaws.{row-within}
+use Rattle.table.specs.Refused.{refusedWords}
+use Rattle.table.proofs.words.judge_words.Statement.{statement}
+use Rattle.table.proofs.words.judge_words.Tie as tie
+
+abbrev Inv-loop : tie.InvT-loop
+Inv-loop table rows i₀ i =
+    (i ≤ rows) × (lowest 2 (λ j. wrongWords (rowAt (rowsOf table) j)) i (rows - i) ≡ refusedWords (rowsOf table))
+
+abbrev μ-loop : tie.MeasureT-loop
+μ-loop table rows i₀ i = rows - i
+
+loop-holds : tie.Need-loop-holds Inv-loop μ-loop
+loop-holds c =
+    let e : c .before .args .rows - 0 ≡ length (rowsOf (c .before .args .table .now)) = omega (arith, c .before .pre) in
+    (omega arith, ap (lowest 2 _ 0) e)
+
+read-row-requires : tie.Need-read-row-requires Inv-loop μ-loop
+read-row-requires c κs =
+    let a = c .before .before .before .args in
+    row-within (a .table .now) (c .before .loop .i) (omega (arith, c .before .before .before .pre))
+
+wrong-words-requires : tie.Need-wrong-words-requires Inv-loop μ-loop
+wrong-words-requires c κs = tt
+
+returns : tie.Need-returns Inv-loop μ-loop
+returns c =
+    let turn = c .before .before .before in
+    lowest-found 2 _ (turn .before .loop .i) (turn .before .before .before .args .rows) (turn .loop-test .taken)
+    (sym (c .before .wrong-words .ensures ∙ ap wrongWords (c .before .before .read-row .ensures)) ∙ c .if1 .taken) (turn .before .loop .inv .1)
+
+add-i : tie.Need-add-i Inv-loop μ-loop
+add-i c = omega arith
+
+loop-less : tie.Need-loop-less Inv-loop μ-loop
+loop-less c = omega arith
+
+loop-again : tie.Need-loop-again Inv-loop μ-loop
+loop-again c =
+    let turn = c .before .before .before in (
+      omega arith,
+      lowest-step 2 _ (turn .before .loop .i) (turn .before .before .before .args .rows) (turn .loop-test .taken)
+          (sym (c .before .wrong-words .ensures ∙ ap wrongWords (c .before .before .read-row .ensures)) ∙ c .if1 .left) (turn .before .loop .inv .1),
+    )
+
+returns-2 : tie.Need-returns-2 Inv-loop μ-loop
+returns-2 c = lowest-end 2 _ (c .before .loop .i) (c .before .before .before .args .rows) (omega arith) (c .before .loop .inv .1)
+
+pub judge-words-spec : {M : Type 1} → statement M
+judge-words-spec =
+    tie.close
+    (tie.spec
+    Inv-loop
+    μ-loop
+    loop-holds
+    read-row-requires
+    wrong-words-requires
+    returns
+    add-i
+    loop-less
+    loop-again
+    returns-2)

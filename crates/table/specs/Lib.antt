@@ -1,0 +1,3 @@
+-- What the judge's parts answer, in terms of the rules.
+pub mod Refused
+pub mod Parents

@@ -1,0 +1,54 @@
+// The table: its rows, what each word of a row is, and the judge.
+use rules::Judged;
+ghost use mathlib.Core.Path.{_≡_};
+ghost use Rattle.rules.specs.Judging.{wrongCount};
+ghost use Rattle.rules.specs.Answers.{saidOfJudge, judgement};
+
+mod children;
+mod depths;
+mod parents;
+pub mod rows;
+mod words;
+
+// "over 512 rows"
+const MOST_ROWS: usize = 512;
+
+// "A row is four words: kind, p, q, r."
+const ROW_WORDS: usize = 4;
+
+// Whether refusal 1 applies: "word count not a multiple of 4, or 0 rows, or over 512 rows".
+fn wrong_count(table: &[u32]) -> bool
+    ensures { λ r. ⌜ r ≡ wrongCount (now (table .entry)) ⌝ }
+{
+    let count = table.len();
+    if count % ROW_WORDS != 0 {
+        return true;
+    }
+    if count / ROW_WORDS == 0 {
+        return true;
+    }
+    MOST_ROWS < count / ROW_WORDS
+}
+
+// The judge: accepted, or the lowest refusal from 1 to 5 that applies anywhere, with its lowest row.
+pub fn judge(table: &[u32]) -> Judged
+    ensures { λ r. ⌜ saidOfJudge r ≡ judgement (now (table .entry)) ⌝ }
+{
+    if wrong_count(table) {
+        return Judged::Refused { number: 1, row: 0 };
+    }
+    let rows = (table.len() / ROW_WORDS) as u32;
+    let words = words::judge_words(table, rows);
+    if let Judged::Refused { number: _, row: _ } = words {
+        return words;
+    }
+    let children = children::judge_children(table, rows);
+    if let Judged::Refused { number: _, row: _ } = children {
+        return children;
+    }
+    let parents = parents::judge_parents(table, rows);
+    if let Judged::Refused { number: _, row: _ } = parents {
+        return parents;
+    }
+    depths::judge_depths(table, rows)
+}
