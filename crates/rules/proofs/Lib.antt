@@ -9,6 +9,7 @@ pub mod AgreeLaws
 pub mod RangeLaws
 pub mod RunLaws
 pub mod RunInvariants
+pub mod BoundLaws
 pub mod PlainLaws
 pub mod LevelLaws
 pub mod AnswerLaws

@@ -8,6 +8,7 @@ pub mod OnePass
 pub mod Marks
 pub mod Values
 pub mod Running
+pub mod Bounds
 pub mod Unwatched
 pub mod LevelRules
 pub mod LevelCheck
