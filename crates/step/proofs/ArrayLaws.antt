@@ -1,0 +1,160 @@
+-- The arrays as stacks and as a list of records: what a store makes of the items, the sets and the records that they hold.
+use Prim.Native.Nat.{ℕ, zero, suc, _+_, _-_, _*_, _≤_, _<_}
+use native.Mathlib.Numerals.{add-one}
+use native.Mathlib.Omega.{arith}
+use mathlib.Core.Bool.{Bool, true, false, cond}
+use mathlib.Core.List.{List, [], _∷_, _++_}
+use mathlib.Core.Logic.{_≢_}
+use mathlib.Core.Path.{_≡_, refl, sym, ap, ap₂, _∙_, subst}
+use lib.Dec.{eqb}
+use lib.ListN.{length, getD, set, length-set, length-append}
+use lib.Seq.{getD-set-same, getD-set-other}
+use borrow.Author.Tests.{eq-eqb, ne-eqb}
+use Rattle.rules.specs.declared.Row.{Row}
+use Rattle.rules.specs.Trees.{stmtAt}
+use Rattle.rules.specs.Running.{Item, statement, close, Record}
+use Rattle.step.specs.Denoted.{itemOf, itemsOf, setsOf, recordsOf, Entry, Entries}
+use Rattle.step.specs.Turns.{Kept}
+
+-- ---- one entry
+
+pub item-close : (rows : List Row) (entry : ℕ) → entry ≡ 0 → itemOf rows entry ≡ close
+unfolding itemOf
+item-close rows entry e = ap (λ (b : Bool). cond b close (statement (stmtAt rows (entry - 1)))) (eq-eqb entry 0 e)
+
+pub item-statement : (rows : List Row) (entry : ℕ) → entry ≢ 0 → itemOf rows entry ≡ statement (stmtAt rows (entry - 1))
+unfolding itemOf
+item-statement rows entry e = ap (λ (b : Bool). cond b close (statement (stmtAt rows (entry - 1)))) (ne-eqb entry 0 e)
+
+pub item-row : (rows : List Row) (row : ℕ) → itemOf rows (row + 1) ≡ statement (stmtAt rows row)
+item-row rows row =
+    item-statement rows (row + 1) (λ e. omega arith)
+    ∙ ap (λ (n : ℕ). statement (stmtAt rows n)) (let e : row + 1 - 1 ≡ row = omega arith in e)
+
+-- ---- the pending items
+
+pub items-pop : (rows : List Row) (entries : List ℕ) (n : ℕ) → itemsOf rows entries (n + 1) ≡ itemOf rows (getD entries n 0) ∷ itemsOf rows entries n
+unfolding itemsOf
+items-pop rows entries n = ap (itemsOf rows entries) (add-one n)
+
+items-above : (rows : List Row) (entries : List ℕ) (j x n : ℕ) → n ≤ j → itemsOf rows (set entries j x) n ≡ itemsOf rows entries n
+unfolding itemsOf
+items-above rows entries j x zero h = refl
+items-above rows entries j x (suc n) h =
+    ap₂ (λ (y : ℕ) (k : List Item). itemOf rows y ∷ k) (getD-set-other entries j n x 0 (λ e. omega arith))
+    (items-above rows entries j x n (omega arith))
+
+pub items-push :
+    (rows : List Row) (entries : List ℕ) (n x : ℕ) → n < length entries
+    → itemsOf rows (set entries n x) (n + 1) ≡ itemOf rows x ∷ itemsOf rows entries n
+items-push rows entries n x h =
+    items-pop rows (set entries n x) n
+    ∙ ap₂ (λ (y : ℕ) (k : List Item). itemOf rows y ∷ k) (getD-set-same entries n x 0 h) (items-above rows entries n x n (omega arith))
+
+pub items-none : (rows : List Row) (entries : List ℕ) → itemsOf rows entries 0 ≡ []
+unfolding itemsOf
+items-none rows entries = refl
+
+pub items-length : (rows : List Row) (entries : List ℕ) (n : ℕ) → length (itemsOf rows entries n) ≡ n
+unfolding itemsOf
+items-length rows entries zero = refl
+items-length rows entries (suc n) = ap suc (items-length rows entries n)
+
+entries-pop : (rows : List Row) (entries : List ℕ) (n : ℕ) → Entries rows entries (n + 1) → Entry rows (getD entries n 0) × Entries rows entries n
+entries-pop rows entries n h = subst (Entries rows entries) (add-one n) h
+
+entries-above : (rows : List Row) (entries : List ℕ) (j x n : ℕ) → n ≤ j → Entries rows entries n → Entries rows (set entries j x) n
+entries-above rows entries j x zero h named = tt
+entries-above rows entries j x (suc n) h named =
+    (subst (Entry rows) (sym (getD-set-other entries j n x 0 (λ e. omega arith))) (named .0),
+    entries-above rows entries j x n (omega arith) (named .1))
+
+pub entries-push :
+    (rows : List Row) (entries : List ℕ) (n x : ℕ) → n < length entries → Entry rows x → Entries rows entries n
+    → Entries rows (set entries n x) (n + 1)
+entries-push rows entries n x h entry named =
+    subst (Entries rows (set entries n x)) (sym (add-one n))
+    (subst (Entry rows) (sym (getD-set-same entries n x 0 h)) entry, entries-above rows entries n x n (omega arith) named)
+
+pub entries-top : (rows : List Row) (entries : List ℕ) (n : ℕ) → Entries rows entries (n + 1) → Entry rows (getD entries n 0)
+entries-top rows entries n h = entries-pop rows entries n h .0
+
+pub entries-rest : (rows : List Row) (entries : List ℕ) (n : ℕ) → Entries rows entries (n + 1) → Entries rows entries n
+entries-rest rows entries n h = entries-pop rows entries n h .1
+
+-- ---- the pile
+
+pub sets-pop : (pile : List ℕ) (n : ℕ) → setsOf pile (n + 1) ≡ getD pile n 0 ∷ setsOf pile n
+unfolding setsOf
+sets-pop pile n = ap (setsOf pile) (add-one n)
+
+sets-above : (pile : List ℕ) (j x n : ℕ) → n ≤ j → setsOf (set pile j x) n ≡ setsOf pile n
+unfolding setsOf
+sets-above pile j x zero h = refl
+sets-above pile j x (suc n) h =
+    ap₂ (λ (y : ℕ) (k : List ℕ). y ∷ k) (getD-set-other pile j n x 0 (λ e. omega arith)) (sets-above pile j x n (omega arith))
+
+pub sets-push : (pile : List ℕ) (n x : ℕ) → n < length pile → setsOf (set pile n x) (n + 1) ≡ x ∷ setsOf pile n
+sets-push pile n x h =
+    sets-pop (set pile n x) n
+    ∙ ap₂ (λ (y : ℕ) (k : List ℕ). y ∷ k) (getD-set-same pile n x 0 h) (sets-above pile n x n (omega arith))
+
+pub sets-none : (pile : List ℕ) (n : ℕ) → n ≡ 0 → setsOf pile n ≡ []
+unfolding setsOf
+sets-none pile n e = ap (setsOf pile) e
+
+pub sets-length : (pile : List ℕ) (n : ℕ) → length (setsOf pile n) ≡ n
+unfolding setsOf
+sets-length pile zero = refl
+sets-length pile (suc n) = ap suc (sets-length pile n)
+
+-- ---- the records
+
+records-above : (trace : List ℕ) (j x n : ℕ) → n * 2 ≤ j → recordsOf (set trace j x) n ≡ recordsOf trace n
+unfolding recordsOf
+records-above trace j x zero h = refl
+records-above trace j x (suc n) h =
+    λ i.
+        records-above trace j x n (omega arith) i
+        ++ (record {
+          channel = getD-set-other trace j (n * 2) x 0 (λ e. omega arith) i;
+          value = getD-set-other trace j (n * 2 + 1) x 0 (λ e. omega arith) i;
+        } ∷ [])
+
+pub records-length : (trace : List ℕ) (n : ℕ) → length (recordsOf trace n) ≡ n
+unfolding recordsOf
+records-length trace zero = refl
+records-length trace (suc n) = length-append (recordsOf trace n) _ ∙ ap (λ (m : ℕ). m + 1) (records-length trace n) ∙ add-one n
+
+pub records-push :
+    (trace : List ℕ) (n c x : ℕ) → n * 2 + 1 < length trace
+    → recordsOf (set (set trace (n * 2) c) (n * 2 + 1) x) (n + 1) ≡ recordsOf trace n ++ (record { channel = c; value = x } ∷ [])
+unfolding recordsOf
+records-push trace n c x h =
+    ap (recordsOf (set (set trace (n * 2) c) (n * 2 + 1) x)) (add-one n)
+    ∙ (λ i. below i ++ (record { channel = first i; value = second i } ∷ []))
+  where
+    below : recordsOf (set (set trace (n * 2) c) (n * 2 + 1) x) n ≡ recordsOf trace n
+    below = records-above (set trace (n * 2) c) (n * 2 + 1) x n (omega arith) ∙ records-above trace (n * 2) c n (omega arith)
+    first : getD (set (set trace (n * 2) c) (n * 2 + 1) x) (n * 2) 0 ≡ c
+    first =
+        getD-set-other (set trace (n * 2) c) (n * 2 + 1) (n * 2) x 0 (λ e. omega arith) ∙ getD-set-same trace (n * 2) c 0 (omega arith)
+    second : getD (set (set trace (n * 2) c) (n * 2 + 1) x) (n * 2 + 1) 0 ≡ x
+    second = getD-set-same (set trace (n * 2) c) (n * 2 + 1) x 0 (omega (arith, length-set trace (n * 2) c))
+
+-- what is written as one record leaves the rest of the trace
+pub kept-push : (trace : List ℕ) (n c x : ℕ) → Kept trace (set (set trace (n * 2) c) (n * 2 + 1) x) (n + 1)
+kept-push trace n c x = record {
+  long = length-set (set trace (n * 2) c) (n * 2 + 1) x ∙ length-set trace (n * 2) c;
+  rest = λ i h.
+      getD-set-other (set trace (n * 2) c) (n * 2 + 1) i x 0 (λ e. omega arith) ∙ getD-set-other trace (n * 2) i c 0 (λ e. omega arith);
+}
+
+pub kept-same : (trace : List ℕ) (n : ℕ) → Kept trace trace n
+kept-same trace n = record { long = refl; rest = λ i h. refl }
+
+pub kept-then : (a b c : List ℕ) (m n : ℕ) → m ≤ n → Kept a b m → Kept b c n → Kept a c n
+kept-then a b c m n h f g = record {
+  long = g .long ∙ f .long;
+  rest = λ i k. g .rest i k ∙ f .rest i (omega arith);
+}

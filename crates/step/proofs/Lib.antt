@@ -1,0 +1,2 @@
+-- The laws of the arrays and of each kind of step.
+pub mod ArrayLaws

@@ -1,0 +1,3 @@
+-- The words of this crate's contracts.
+pub mod Denoted
+pub mod Turns
