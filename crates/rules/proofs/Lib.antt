@@ -4,6 +4,7 @@ pub mod RowLaws
 pub mod JudgeLaws
 pub mod RefusalLaws
 pub mod TreeLaws
+pub mod StatementLaws
 pub mod ValueLaws
 pub mod AgreeLaws
 pub mod RangeLaws

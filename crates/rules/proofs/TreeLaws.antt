@@ -1,7 +1,7 @@
 -- The trees of a judged table: what an expression row and a statement row stand for, in terms of their children.
 use Prim.Native.Nat.{ℕ, zero, suc, _-_, _≤_, _<_}
 use native.Mathlib.Omega.{arith}
-use mathlib.Core.List.{List}
+use mathlib.Core.List.{List, [], _∷_}
 use mathlib.Core.Path.{_≡_, refl, sym, ap, ap₂, _∙_, subst}
 use lib.ListN.{length}
 use Rattle.rules.specs.declared.Depth.{Depth}
@@ -9,9 +9,10 @@ use Rattle.rules.specs.declared.Kind.{Kind}
 use Rattle.rules.specs.declared.Row.{Row}
 use Rattle.rules.specs.Limits.{width, highestChannel}
 use Rattle.rules.specs.Rows.{rolesOf, rowAt}
-use Rattle.rules.specs.Trees.{Expr, binary, Stmt, skip, assign, sequence, if, while, output, operatorOf, exprNode, stmtNode, exprIn, exprAt, stmtIn, stmtAt, recipe, height, nesting, loopNesting}
+use Rattle.rules.specs.Trees.{Expr, constant, variable, binary, Stmt, skip, assign, sequence, if, while, output, operatorOf, exprNode, stmtNode, exprIn, exprAt, stmtIn, stmtAt, recipe, height, nesting, loopNesting}
 use Rattle.rules.specs.Sound.{SoundRow, Fitting, Sound}
 use Rattle.rules.specs.OnePass.{depthAt, depthBy}
+use Rattle.rules.proofs.RowLaws.{Arm, kindAt}
 
 -- two readings of the children that agree below row i make one tree of row i
 expr-agree :
@@ -46,6 +47,46 @@ stmt-agree rows i row test f g same Kind.Constant sound = refl
 stmt-agree rows i row test f g same Kind.Variable sound = refl
 stmt-agree rows i row test f g same Kind.Binary sound = refl
 stmt-agree rows i row test f g same Kind.Unknown sound = refl
+
+-- what an expression row stands for, by the arms of a match on its kind
+pub expr-arms :
+    (child : ℕ → Expr) (row : Row)
+    → Arm kindAt (exprNode child row) (constant (row .p)) (6 ∷ [])
+    × Arm kindAt (exprNode child row) (variable (row .p)) (7 ∷ [])
+    × Arm kindAt (exprNode child row) (binary (operatorOf (row .p)) (child (row .q)) (child (row .r))) (8 ∷ [])
+    × Arm kindAt (exprNode child row) (constant 0) (0 ∷ 1 ∷ 2 ∷ 3 ∷ 4 ∷ 5 ∷ 9 ∷ [])
+unfolding exprNode
+expr-arms child row = (record { each = refl }, record { each = refl }, record { each = refl }, record { each = refl })
+
+-- the words of a sound row, kind by kind
+module _ {rows : List Row} {i : ℕ} {row : Row} where
+  pub assign-words : SoundRow rows i Kind.Assign row → (row .p < width) × (row .q < i)
+  unfolding rolesOf
+  assign-words sound = (sound .p, sound .q .0)
+
+  pub sequence-words : SoundRow rows i Kind.Sequence row → (row .p < i) × (row .q < i)
+  unfolding rolesOf
+  sequence-words sound = (sound .p .0, sound .q .0)
+
+  pub if-words : SoundRow rows i Kind.If row → (row .p < i) × (row .q < i) × (row .r < i)
+  unfolding rolesOf
+  if-words sound = (sound .p .0, sound .q .0, sound .r .0)
+
+  pub while-words : SoundRow rows i Kind.While row → (row .p < i) × (row .q < i)
+  unfolding rolesOf
+  while-words sound = (sound .p .0, sound .q .0)
+
+  pub output-words : SoundRow rows i Kind.Output row → (row .p ≤ highestChannel) × (row .q < i)
+  unfolding rolesOf
+  output-words sound = (sound .p, sound .q .0)
+
+  pub variable-words : SoundRow rows i Kind.Variable row → row .p < width
+  unfolding rolesOf
+  variable-words sound = sound .p
+
+  pub binary-words : SoundRow rows i Kind.Binary row → (row .q < i) × (row .r < i)
+  unfolding rolesOf
+  binary-words sound = (sound .q .0, sound .r .0)
 
 -- the depth of a row's tree, where the depths below it are known
 depth-node :

@@ -2,7 +2,7 @@
 use Prim.Native.Nat.{ℕ, _+_, _*_, _/_, _%_, _^_, _≤_, _<_}
 use native.Mathlib.Nat.{lt-of-le-of-lt, le-of-lt, mul-le-mul-left, mul-lt-mul-of-pos-right}
 use native.Mathlib.Omega.{arith}
-use mathlib.Core.Bool.{Bool, cond}
+use mathlib.Core.Bool.{Bool, true, false, cond}
 use mathlib.Core.List.{List, [], _∷_}
 use mathlib.Core.Path.{_≡_, refl, ap}
 use lib.ListN.{getD}
@@ -13,7 +13,7 @@ use Rattle.rules.specs.declared.Operator.{Operator}
 use Rattle.rules.specs.declared.Row.{Row}
 use Rattle.rules.specs.Limits.{wordBits}
 use Rattle.rules.specs.Marks.{none, has, only, union}
-use Rattle.rules.specs.Trees.{Expr, Stmt, operatorOf, exprNode, stmtNode}
+use Rattle.rules.specs.Trees.{Expr, constant, variable, binary, Stmt, operatorOf, stmtNode}
 use Rattle.rules.specs.Values.{operate, value, level, mayAssign}
 use Rattle.rules.proofs.RowLaws.{Arm, kindAt, Other}
 
@@ -83,34 +83,34 @@ pub not-less-law : (a b : ℕ) → b ≤ a → operate Operator.Less a b ≡ 0
 unfolding operate
 not-less-law a b h = ap (λ (t : Bool). cond t 1 0) (le-ltb a b h)
 
--- ---- value, level and may-assign of a row, by the arms of a match on its kind
+-- ---- value and level of each form of expression
 
-module _ (child : ℕ → Expr) (row : Row) where
-  pub value-arms :
-      (memory : List ℕ)
-      → Arm kindAt (λ (kind : Kind). value memory (exprNode child row kind)) (row .p) (6 ∷ [])
-      × Arm kindAt (λ (kind : Kind). value memory (exprNode child row kind)) (getD memory (row .p) 0) (7 ∷ [])
-      × Arm
-      kindAt
-      (λ (kind : Kind). value memory (exprNode child row kind))
-      (operate (operatorOf (row .p)) (value memory (child (row .q))) (value memory (child (row .r))))
-      (8 ∷ [])
-      × Arm kindAt (λ (kind : Kind). value memory (exprNode child row kind)) 0 (0 ∷ 1 ∷ 2 ∷ 3 ∷ 4 ∷ 5 ∷ 9 ∷ [])
-  unfolding exprNode
-  value-arms memory = (record { each = refl }, record { each = refl }, record { each = refl }, record { each = refl })
+module _ (memory : List ℕ) where
+  pub value-constant : (c : ℕ) → value memory (constant c) ≡ c
+  value-constant c = refl
 
-  pub level-arms :
-      (marks : ℕ)
-      → Arm kindAt (λ (kind : Kind). level marks (exprNode child row kind)) none (6 ∷ [])
-      × Arm kindAt (λ (kind : Kind). level marks (exprNode child row kind)) (cond (has marks (row .p)) (only (row .p)) none) (7 ∷ [])
-      × Arm
-      kindAt
-      (λ (kind : Kind). level marks (exprNode child row kind))
-      (union (level marks (child (row .q))) (level marks (child (row .r))))
-      (8 ∷ [])
-      × Arm kindAt (λ (kind : Kind). level marks (exprNode child row kind)) none (0 ∷ 1 ∷ 2 ∷ 3 ∷ 4 ∷ 5 ∷ 9 ∷ [])
-  unfolding exprNode
-  level-arms marks = (record { each = refl }, record { each = refl }, record { each = refl }, record { each = refl })
+  pub value-variable : (v : ℕ) → value memory (variable v) ≡ getD memory v 0
+  value-variable v = refl
+
+  pub value-binary : (o : Operator) (a b : Expr) → value memory (binary o a b) ≡ operate o (value memory a) (value memory b)
+  value-binary o a b = refl
+
+module _ (marks : ℕ) where
+  pub level-constant : (c : ℕ) → level marks (constant c) ≡ 0
+  unfolding none
+  level-constant c = refl
+
+  pub level-marked : (v : ℕ) → has marks v ≡ true → level marks (variable v) ≡ only v
+  level-marked v h = ap (λ (b : Bool). cond b (only v) none) h
+
+  pub level-unmarked : (v : ℕ) → has marks v ≡ false → level marks (variable v) ≡ 0
+  unfolding none
+  level-unmarked v h = ap (λ (b : Bool). cond b (only v) 0) h
+
+  pub level-binary : (o : Operator) (a b : Expr) → level marks (binary o a b) ≡ union (level marks a) (level marks b)
+  level-binary o a b = refl
+
+-- ---- what a row may assign, by the arms of a match on its kind
 
 pub assign-arms :
     (test : ℕ → Expr) (child : ℕ → Stmt) (i : ℕ) (row : Row)
@@ -126,7 +126,7 @@ pub assign-arms :
     (union (mayAssign (child (row .q))) (mayAssign (child (row .r))))
     (3 ∷ [])
     × Arm kindAt (λ (kind : Kind). mayAssign (stmtNode test child i row kind)) (mayAssign (child (row .q))) (4 ∷ [])
-    × Arm kindAt (λ (kind : Kind). mayAssign (stmtNode test child i row kind)) none (0 ∷ 5 ∷ 6 ∷ 7 ∷ 8 ∷ 9 ∷ [])
-unfolding stmtNode
+    × Arm kindAt (λ (kind : Kind). mayAssign (stmtNode test child i row kind)) 0 (0 ∷ 5 ∷ 6 ∷ 7 ∷ 8 ∷ 9 ∷ [])
+unfolding stmtNode none
 assign-arms test child i row =
     (record { each = refl }, record { each = refl }, record { each = refl }, record { each = refl }, record { each = refl })

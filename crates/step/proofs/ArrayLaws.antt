@@ -65,9 +65,10 @@ entries-pop rows entries n h = subst (Entries rows entries) (add-one n) h
 
 entries-above : (rows : List Row) (entries : List ℕ) (j x n : ℕ) → n ≤ j → Entries rows entries n → Entries rows (set entries j x) n
 entries-above rows entries j x zero h named = tt
-entries-above rows entries j x (suc n) h named =
-    (subst (Entry rows) (sym (getD-set-other entries j n x 0 (λ e. omega arith))) (named .0),
-    entries-above rows entries j x n (omega arith) (named .1))
+entries-above rows entries j x (suc n) h named = (
+  subst (Entry rows) (sym (getD-set-other entries j n x 0 (λ e. omega arith))) (named .0),
+  entries-above rows entries j x n (omega arith) (named .1),
+)
 
 pub entries-push :
     (rows : List Row) (entries : List ℕ) (n x : ℕ) → n < length entries → Entry rows x → Entries rows entries n
@@ -115,11 +116,11 @@ unfolding recordsOf
 records-above trace j x zero h = refl
 records-above trace j x (suc n) h =
     λ i.
-        records-above trace j x n (omega arith) i
-        ++ (record {
-          channel = getD-set-other trace j (n * 2) x 0 (λ e. omega arith) i;
-          value = getD-set-other trace j (n * 2 + 1) x 0 (λ e. omega arith) i;
-        } ∷ [])
+    records-above trace j x n (omega arith) i
+    ++ (record {
+      channel = getD-set-other trace j (n * 2) x 0 (λ e. omega arith) i;
+      value = getD-set-other trace j (n * 2 + 1) x 0 (λ e. omega arith) i;
+    } ∷ [])
 
 pub records-length : (trace : List ℕ) (n : ℕ) → length (recordsOf trace n) ≡ n
 unfolding recordsOf
@@ -136,9 +137,11 @@ records-push trace n c x h =
   where
     below : recordsOf (set (set trace (n * 2) c) (n * 2 + 1) x) n ≡ recordsOf trace n
     below = records-above (set trace (n * 2) c) (n * 2 + 1) x n (omega arith) ∙ records-above trace (n * 2) c n (omega arith)
+
     first : getD (set (set trace (n * 2) c) (n * 2 + 1) x) (n * 2) 0 ≡ c
     first =
         getD-set-other (set trace (n * 2) c) (n * 2 + 1) (n * 2) x 0 (λ e. omega arith) ∙ getD-set-same trace (n * 2) c 0 (omega arith)
+
     second : getD (set (set trace (n * 2) c) (n * 2 + 1) x) (n * 2 + 1) 0 ≡ x
     second = getD-set-same (set trace (n * 2) c) (n * 2 + 1) x 0 (omega (arith, length-set trace (n * 2) c))
 

@@ -1,0 +1,40 @@
+-- Value and level in one answer, for each form of expression.
+use Prim.Native.Nat.{ℕ}
+use mathlib.Core.Bool.{true, false}
+use mathlib.Core.List.{List}
+use mathlib.Core.Path.{_≡_, sym, ap, ap₂, _∙_}
+use lib.ListN.{getD}
+use Rattle.rules.specs.declared.Operator.{Operator}
+use Rattle.rules.specs.Marks.{has, only, union}
+use Rattle.rules.specs.Trees.{Expr, constant, variable, binary}
+use Rattle.rules.specs.Values.{operate}
+use Rattle.rules.proofs.ValueLaws.{value-constant, value-variable, value-binary, level-constant, level-marked, level-unmarked, level-binary}
+use Rattle.expression.specs.declared.values.Valued.{Valued}
+use Rattle.expression.specs.Valued.{valuedOf}
+
+abbrev pair : ℕ → ℕ → Valued
+pair v l = record { value = v; level = l }
+
+module _ (memory : List ℕ) (marks : ℕ) where
+  pub valued-constant : (c : ℕ) → record { value = c; level = 0 } ≡ valuedOf memory marks (constant c)
+  valued-constant c = sym (ap₂ pair (value-constant memory c) (level-constant marks c))
+
+  pub valued-marked :
+      (v : ℕ) {value level : ℕ} → has marks v ≡ true → value ≡ getD memory v 0 → level ≡ only v
+      → record { value = value; level = level } ≡ valuedOf memory marks (variable v)
+  valued-marked v h e f = ap₂ pair (e ∙ sym (value-variable memory v)) (f ∙ sym (level-marked marks v h))
+
+  pub valued-unmarked :
+      (v : ℕ) {value : ℕ} → has marks v ≡ false → value ≡ getD memory v 0
+      → record { value = value; level = 0 } ≡ valuedOf memory marks (variable v)
+  valued-unmarked v h e = ap₂ pair (e ∙ sym (value-variable memory v)) (sym (level-unmarked marks v h))
+
+  pub valued-binary :
+      (o : Operator) (a b : Expr) {left right : Valued} {value level : ℕ} → left ≡ valuedOf memory marks a → right ≡ valuedOf memory marks b
+      → value ≡ operate o (left .value) (right .value) → level ≡ union (left .level) (right .level)
+      → record { value = value; level = level } ≡ valuedOf memory marks (binary o a b)
+  valued-binary o a b ea eb ev el =
+      ap₂
+      pair
+      (ev ∙ ap₂ (λ (x y : Valued). operate o (x .value) (y .value)) ea eb ∙ sym (value-binary memory o a b))
+      (el ∙ ap₂ (λ (x y : Valued). union (x .level) (y .level)) ea eb ∙ sym (level-binary marks o a b))

@@ -1,0 +1,30 @@
+// What a statement may assign: "every variable that stands on the left of an assignment anywhere in the statement".
+use crate::marks::joined;
+use crate::marks::only_mark;
+use rules::Judged;
+use rules::Kind;
+use rules::Marks;
+use table::rows::read_row;
+ghost use mathlib.Core.Path.{_≡_};
+ghost use Prim.Native.Nat.{_<_};
+ghost use lib.ListN.{length};
+ghost use Rattle.rules.specs.Rows.{rowsOf};
+ghost use Rattle.rules.specs.Trees.{stmtAt};
+ghost use Rattle.rules.specs.Values.{mayAssign};
+ghost use Rattle.rules.specs.Sound.{Sound};
+
+// The variables that the statement at a row may assign, for callers that hold a judged table.
+pub fn may_assign(table: &[u32], row: u32) -> Marks
+    requires { ⌜ Sound (rowsOf (now table)) × (row < length (rowsOf (now table))) ⌝ }
+    ensures { λ r. ⌜ r ≡ mayAssign (stmtAt (rowsOf (now (table .entry))) row) ⌝ }
+{
+    let here = read_row(table, row);
+    let kind = here.kind;
+    match kind {
+        Kind::Assign => only_mark(here.p),
+        Kind::Sequence => joined(may_assign(table, here.p), may_assign(table, here.q)),
+        Kind::If => joined(may_assign(table, here.q), may_assign(table, here.r)),
+        Kind::While => may_assign(table, here.q),
+        _ => 0,
+    }
+}

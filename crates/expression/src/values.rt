@@ -1,0 +1,66 @@
+// An expression's value and level.
+use crate::marks::has_mark;
+use crate::marks::joined;
+use crate::marks::only_mark;
+use crate::memory::read_lent;
+use crate::operators::operated;
+use rules::Judged;
+use rules::Kind;
+use rules::Marks;
+use rules::Memory;
+use rules::VARIABLES;
+use table::rows::read_row;
+ghost use mathlib.Core.Path.{_≡_};
+ghost use Prim.Native.Nat.{_%_, _<_};
+ghost use lib.ListN.{length};
+ghost use Rattle.rules.specs.Limits.{width};
+ghost use Rattle.rules.specs.Rows.{rowsOf};
+ghost use Rattle.rules.specs.Trees.{variable, exprAt};
+ghost use Rattle.rules.specs.Sound.{Sound};
+ghost use Rattle.expression.specs.Valued.{valuedOf};
+
+// An expression's value, and its level: the marked variables that are read in it.
+pub struct Valued {
+    pub value: u32,
+    pub level: Marks,
+}
+
+// The variable's value, and its level: itself where it is marked.
+fn read_variable(words: &[u32; VARIABLES], marks: Marks, v: u32) -> Valued
+    requires { ⌜ length (now words) ≡ width ⌝ }
+    ensures { λ r. ⌜ r ≡ valuedOf (now (words .entry)) marks (variable (v % width)) ⌝ }
+{
+    let value = read_lent(words, v);
+    if has_mark(marks, v) {
+        return Valued {
+            value,
+            level: only_mark(v),
+        };
+    }
+    Valued { value, level: 0 }
+}
+
+// The value and level of the expression at a row, for callers that hold a judged table.
+pub fn evaluate(table: &[u32], row: u32, words: &[u32; VARIABLES], marks: Marks) -> Valued
+    requires { ⌜ Sound (rowsOf (now table)) × (row < length (rowsOf (now table))) × (length (now words) ≡ width) ⌝ }
+    ensures { λ r. ⌜ r ≡ valuedOf (now (words .entry)) marks (exprAt (rowsOf (now (table .entry))) row) ⌝ }
+{
+    let here = read_row(table, row);
+    let kind = here.kind;
+    match kind {
+        Kind::Constant => Valued {
+            value: here.p,
+            level: 0,
+        },
+        Kind::Variable => read_variable(words, marks, here.p),
+        Kind::Binary => {
+            let left = evaluate(table, here.q, words, marks);
+            let right = evaluate(table, here.r, words, marks);
+            Valued {
+                value: operated(here.p, left.value, right.value),
+                level: joined(left.level, right.level),
+            }
+        }
+        _ => Valued { value: 0, level: 0 },
+    }
+}
