@@ -14,6 +14,7 @@ use Rattle.rules.proofs.MarkLaws.{has-only-same, settled-union, has-pro
 
 module _ (marks : ℕ) (m m′ : List ℕ) (same : (v : ℕ) → has marks v ≡ false → getD m v 0 ≡ getD m′ v 0) where
   pub value-agree : (e : Expr) → provisional (level marks e) ≡ false → value m e ≡ value m′ e
+  unfolding value level
   value-agree (constant c) settled = refl
   value-agree (variable v) settled = by (has marks v) refl
     where
@@ -36,6 +37,7 @@ module _ (marks : ℕ) (m m′ : List ℕ) (same : (v : ℕ) → has marks v ≡
 -- ---- more marks, higher levels
 
 pub level-mono : (a b : ℕ) → a ⊆ b → (e : Expr) → level a e ⊆ level b e
+unfolding level
 level-mono a b sub (constant c) = subset-refl none
 level-mono a b sub (variable v) = by (has a v) (has b v) (sub v)
   where

@@ -4,7 +4,7 @@ use Rattle.rules.specs.Rows.{kindOf, rolesOf, isStatement, isExpression,
 use Rattle.rules.specs.Trees.{operatorOf, exprNode, stmtNode, exprIn, exprAt, stmtIn, stmtAt, recipe}
 use Rattle.rules.specs.Judging.{wrongCount, wrongWord, wrongWords, wrongChild, wrongChildren, childOf, children, places, wrongParents, tooDeep, lowest, orElse, judgeRows, judge, judgeTrace}
 use Rattle.rules.specs.Marks.{none, has, put, only, union, provisional}
-use Rattle.rules.specs.Values.{operate, holds}
+use Rattle.rules.specs.Values.{operate, value, holds, level}
 use Rattle.rules.specs.Running.{start, guarded, skipped, assigned, opened, branched, turned, closedMarks, popped, closed, recorded, isDenied, outputAttempt, begin, attempt, atBudget, follow, run}
 use Rattle.rules.specs.LevelCheck.{rested, added, rounds}
 use Rattle.rules.specs.Answers.{judgement, answered, termsOf, answer, traceWordsOf, traceAfter, advised, advice}
@@ -15,7 +15,7 @@ use Rattle.rules.specs.Refusals.{grown, judgements, traced, longest, Cas
 
 -- Whoever unfolds this unfolds every rule.
 unfoldable pub rules : Unit {0}
-unfolding kindOf rolesOf isStatement isExpression isUnknown rowOf rowsOf absent rowAt operatorOf exprNode stmtNode exprIn exprAt stmtIn stmtAt recipe wrongCount wrongWord wrongWords wrongChild wrongChildren childOf children places wrongParents tooDeep lowest orElse judgeRows judge judgeTrace none has put only union provisional operate holds start guarded skipped assigned opened branched turned closedMarks popped closed recorded isDenied outputAttempt begin attempt atBudget follow run rested added rounds judgement answered termsOf answer traceWordsOf traceAfter advised advice wordsOf memoryOf answerTo resultOf recordless
+unfolding kindOf rolesOf isStatement isExpression isUnknown rowOf rowsOf absent rowAt operatorOf exprNode stmtNode exprIn exprAt stmtIn stmtAt recipe wrongCount wrongWord wrongWords wrongChild wrongChildren childOf children places wrongParents tooDeep lowest orElse judgeRows judge judgeTrace none has put only union provisional operate value holds level start guarded skipped assigned opened branched turned closedMarks popped closed recorded isDenied outputAttempt begin attempt atBudget follow run rested added rounds judgement answered termsOf answer traceWordsOf traceAfter advised advice wordsOf memoryOf answerTo resultOf recordless
 rules = tt
 
 pub starred-met : Starred

@@ -4,7 +4,7 @@ use native.Mathlib.Nat.{lt-of-le-of-lt, le-of-lt, mul-le-mul-left, mul-lt-mul-of
 use native.Mathlib.Omega.{arith}
 use mathlib.Core.Bool.{Bool, true, false, cond}
 use mathlib.Core.List.{List, [], _∷_}
-use mathlib.Core.Path.{_≡_, refl, ap}
+use mathlib.Core.Path.{_≡_, refl, sym, ap, _∙_}
 use lib.ListN.{getD}
 use lib.Pow.{pow-pos}
 use borrow.Author.Tests.{eq-eqb, ne-eqb, lt-ltb, le-ltb}
@@ -87,27 +87,32 @@ not-less-law a b h = ap (λ (t : Bool). cond t 1 0) (le-ltb a b h)
 
 module _ (memory : List ℕ) where
   pub value-constant : (c : ℕ) → value memory (constant c) ≡ c
+  unfolding value
   value-constant c = refl
 
   pub value-variable : (v : ℕ) → value memory (variable v) ≡ getD memory v 0
+  unfolding value
   value-variable v = refl
 
   pub value-binary : (o : Operator) (a b : Expr) → value memory (binary o a b) ≡ operate o (value memory a) (value memory b)
+  unfolding value
   value-binary o a b = refl
 
 module _ (marks : ℕ) where
   pub level-constant : (c : ℕ) → level marks (constant c) ≡ 0
-  unfolding none
+  unfolding level none
   level-constant c = refl
 
   pub level-marked : (v : ℕ) → has marks v ≡ true → level marks (variable v) ≡ only v
+  unfolding level
   level-marked v h = ap (λ (b : Bool). cond b (only v) none) h
 
   pub level-unmarked : (v : ℕ) → has marks v ≡ false → level marks (variable v) ≡ 0
-  unfolding none
+  unfolding level none
   level-unmarked v h = ap (λ (b : Bool). cond b (only v) 0) h
 
   pub level-binary : (o : Operator) (a b : Expr) → level marks (binary o a b) ≡ union (level marks a) (level marks b)
+  unfolding level
   level-binary o a b = refl
 
 -- ---- what a row may assign, by the arms of a match on its kind

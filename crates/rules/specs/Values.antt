@@ -20,7 +20,7 @@ operate Operator.Equal a b = cond (eqb a b) 1 0
 operate Operator.Less a b = cond (ltb a b) 1 0
 
 -- an expression's value in a memory
-abbrev pub value : List ℕ → Expr → ℕ
+unfoldable pub value : List ℕ → Expr → ℕ
 value memory (constant c) = c
 value memory (variable v) = getD memory v 0
 value memory (binary o a b) = operate o (value memory a) (value memory b)
@@ -31,7 +31,7 @@ holds memory test = not (eqb (value memory test) 0)
 
 -- "An expression is provisional when some variable read in it is marked. Values do not matter": the marked variables
 -- that are read in it.
-abbrev pub level : ℕ → Expr → ℕ
+unfoldable pub level : ℕ → Expr → ℕ
 level marks (constant c) = none
 level marks (variable v) = cond (has marks v) (only v) none
 level marks (binary o a b) = union (level marks a) (level marks b)
