@@ -1,6 +1,6 @@
 -- Laws of the whole answers: a call either runs or is refused, and what it answers then; each answer enum is told apart by
 -- what it says.
-use Prim.Native.Nat.{ℕ}
+use Prim.Native.Nat.{ℕ, _/_}
 use mathlib.Core.Bool.{false, cond}
 use mathlib.Core.List.{List, [], _∷_}
 use mathlib.Core.Path.{_≡_, refl, sym, ap, _∙_}
@@ -8,6 +8,7 @@ use lib.Dec.{eqb}
 use Rattle.rules.specs.declared.Judged.{Judged}
 use Rattle.rules.specs.declared.Ended.{Ended}
 use Rattle.rules.specs.declared.Checked.{Checked}
+use Rattle.rules.specs.Limits.{recordWords}
 use Rattle.rules.specs.Rows.{rowsOf}
 use Rattle.rules.specs.Trees.{recipe}
 use Rattle.rules.specs.Judging.{orElse, judge, judgeTrace}
@@ -43,6 +44,11 @@ call words m l b w = by (orElse (judge words) (judgeTrace w)) refl
         (ap (λ (j : Judged). answered j (termsOf w) b (start (recipe (rowsOf words)) m l)) e)
     by (Judged.Refused number row) e =
         away number row (ap (λ (j : Judged). answered j (termsOf w) b (start (recipe (rowsOf words)) m l)) e)
+
+-- room is half the trace's words
+pub room-law : (traceWords : ℕ) → termsOf traceWords .room ≡ traceWords / recordWords
+unfolding termsOf
+room-law traceWords = refl
 
 -- with no record the trace is as it was lent
 pub trace-kept : (trace : List ℕ) → traceAfter [] trace ≡ trace

@@ -129,6 +129,18 @@ pub provisional-none : provisional none ≡ false
 unfolding provisional none
 provisional-none = refl
 
+pub provisional-zero : (m : ℕ) → m ≡ 0 → provisional m ≡ false
+unfolding provisional
+provisional-zero m e = ap (λ (n : ℕ). not (eqb n 0)) e
+
+pub provisional-some : (m : ℕ) → m ≢ 0 → provisional m ≡ true
+unfolding provisional
+provisional-some m other = ap not (ne-eqb m 0 other)
+
+pub none-zero : none ≡ 0
+unfolding none
+none-zero = refl
+
 pub settled-none : (m : ℕ) → provisional m ≡ false → m ≡ none
 unfolding provisional none
 settled-none m h = eqb-true m 0 (not-false (eqb m 0) h)

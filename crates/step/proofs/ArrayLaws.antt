@@ -2,7 +2,7 @@
 use Prim.Native.Nat.{ℕ, zero, suc, _+_, _-_, _*_, _≤_, _<_}
 use native.Mathlib.Numerals.{add-one}
 use native.Mathlib.Omega.{arith}
-use mathlib.Core.Bool.{Bool, true, false, cond}
+use mathlib.Core.Bool.{Bool, cond, not}
 use mathlib.Core.List.{List, [], _∷_, _++_}
 use mathlib.Core.Logic.{_≢_}
 use mathlib.Core.Path.{_≡_, refl, sym, ap, ap₂, _∙_, subst}
@@ -12,7 +12,7 @@ use lib.Seq.{getD-set-same, getD-set-other}
 use borrow.Author.Tests.{eq-eqb, ne-eqb}
 use Rattle.rules.specs.declared.Row.{Row}
 use Rattle.rules.specs.Trees.{stmtAt}
-use Rattle.rules.specs.Running.{Item, statement, close, Record}
+use Rattle.rules.specs.Running.{Item, statement, close, Record, context}
 use Rattle.step.specs.Denoted.{itemOf, itemsOf, setsOf, recordsOf, Entry, Entries}
 use Rattle.step.specs.Turns.{Kept}
 
@@ -108,6 +108,12 @@ pub sets-length : (pile : List ℕ) (n : ℕ) → length (setsOf pile n) ≡ n
 unfolding setsOf
 sets-length pile zero = refl
 sets-length pile (suc n) = ap suc (sets-length pile n)
+
+-- the context that the pile makes
+pub context-law : (pile : List ℕ) (n : ℕ) → context (setsOf pile n) ≡ not (eqb n 0)
+unfolding setsOf
+context-law pile zero = refl
+context-law pile (suc n) = sym (ap not (ne-eqb (suc n) 0 (λ e. omega arith)))
 
 -- ---- the records
 

@@ -1,2 +1,3 @@
 -- The laws of the arrays and of each kind of step.
 pub mod ArrayLaws
+pub mod StepLaws

@@ -1,17 +1,22 @@
 -- What a step does to the state that the arrays hold.
-use Prim.Native.Nat.{ℕ, suc, _+_, _*_, _≤_}
+use Prim.Native.Nat.{ℕ, suc, _+_, _-_, _*_, _≤_, _<_}
+use mathlib.Core.Bool.{_||_}
 use mathlib.Core.List.{List}
 use mathlib.Core.Path.{_≡_}
 use lib.ListN.{length, getD}
 use Rattle.rules.specs.declared.Row.{Row}
 use Rattle.rules.specs.declared.Ended.{Ended}
-use Rattle.rules.specs.Running.{outcome}
+use Rattle.rules.specs.declared.Kind.{Kind}
+use Rattle.rules.specs.Marks.{provisional}
+use Rattle.rules.specs.Rows.{rowAt}
+use Rattle.rules.specs.Running.{Item, Record, Terms, context, push, outcome}
+use Rattle.rules.specs.Bounds.{Bounds}
 use Rattle.rules.specs.Answers.{reached, termsOf}
-use Rattle.rules.proofs.RunLaws.{final}
+use Rattle.rules.proofs.RunLaws.{state, final}
 use Rattle.step.specs.declared.Held.{Held}
 use Rattle.step.specs.declared.Turn.{Turn}
 use Rattle.step.specs.declared.Turn.the-variants.{Went, Stopped, NoRoom}
-use Rattle.step.specs.Denoted.{stateOf, Holds}
+use Rattle.step.specs.Denoted.{itemsOf, setsOf, stateOf, Entries, Holds}
 
 -- the words of the trace after the first n records are as they were
 pub record Kept (trace trace′ : List ℕ) (records : ℕ) : Type 0 where
@@ -34,6 +39,33 @@ pub record Ends (rows : List Row) (w e p t : List ℕ) (h : Held) (w′ t′ : L
       → final (termsOf (length t)) (suc budget) (stateOf rows w e p t h steps) ≡ reached (outcome ended (stateOf rows w e p t h steps))
   pub words : w′ ≡ w
   pub trace : t′ ≡ t
+
+-- A test of this level was looked at: these items are pending, and this set is pushed if the test or the context is
+-- provisional; records and marks are as they were.
+pub record Opened (rows : List Row) (p : List ℕ) (h : Held) (k : List Item) (level pushed : ℕ) (e′ p′ : List ℕ) (h′ : Held) : Type 0 where
+  pub items : itemsOf rows e′ (h′ .pending) ≡ k
+  pub named : Entries rows e′ (h′ .pending)
+  pub entries-long : length e′ ≡ 1025
+  pub sets : setsOf p′ (h′ .pile) ≡ push (provisional level || context (setsOf p (h .pile))) pushed (setsOf p (h .pile))
+  pub pile-long : length p′ ≡ 8
+  pub records : h′ .records ≡ h .records
+  pub marks : h′ .marks ≡ h .marks
+
+-- The same run, with sequences at the front of the pending items taken apart.
+pub record Apart (rows : List Row) (e : List ℕ) (n : ℕ) (e′ : List ℕ) (n′ : ℕ) : Type 0 where
+  pub some : 0 < n′
+  pub same :
+      (terms : Terms) (b : ℕ) (m : List ℕ) (l : ℕ) (p : List ℕ) (r : List Record) (s : ℕ)
+      → final terms b (state (itemsOf rows e n) m l p r s) ≡ final terms b (state (itemsOf rows e′ n′) m l p r s)
+  pub bounds : (m : List ℕ) (l : ℕ) (p : List ℕ) (r : List Record) → Bounds (itemsOf rows e n) m l p r → Bounds (itemsOf rows e′ n′) m l p r
+  pub named : Entries rows e′ n′
+  pub entries-long : length e′ ≡ 1025
+
+-- All of them: what is next is a statement of another kind.
+pub record TakenApart (rows : List Row) (e : List ℕ) (n : ℕ) (e′ : List ℕ) (n′ : ℕ) : Type 0 where
+  pub apart : Apart rows e n e′ n′
+  pub statement-next : getD e′ (n′ - 1) 0 ≡ 0 → ⊥
+  pub no-sequence : rowAt rows (getD e′ (n′ - 1) 0 - 1) .kind ≡ Kind.Sequence → ⊥
 
 -- what a turn says of the arrays before and after
 abbrev pub Turned : List Row → List ℕ → List ℕ → List ℕ → List ℕ → Held → List ℕ → List ℕ → List ℕ → List ℕ → Turn → Type 0
