@@ -2,7 +2,7 @@
 use Prim.Native.Nat.{ℕ, zero, suc, _+_, _-_, _*_, _≤_, _<_}
 use native.Mathlib.Numerals.{add-one}
 use native.Mathlib.Omega.{arith}
-use mathlib.Core.Bool.{Bool, cond, not}
+use mathlib.Core.Bool.{Bool, true, false, cond, not, _||_}
 use mathlib.Core.List.{List, [], _∷_, _++_}
 use mathlib.Core.Logic.{_≢_}
 use mathlib.Core.Path.{_≡_, refl, sym, ap, ap₂, _∙_, subst}
@@ -11,8 +11,9 @@ use lib.ListN.{length, getD, set, length-set, length-append}
 use lib.Seq.{getD-set-same, getD-set-other}
 use borrow.Author.Tests.{eq-eqb, ne-eqb}
 use Rattle.rules.specs.declared.Row.{Row}
+use Rattle.rules.specs.Marks.{provisional}
 use Rattle.rules.specs.Trees.{stmtAt}
-use Rattle.rules.specs.Running.{Item, statement, close, Record, context}
+use Rattle.rules.specs.Running.{Item, statement, close, Record, context, push}
 use Rattle.step.specs.Denoted.{itemOf, itemsOf, setsOf, recordsOf, Entry, Entries}
 use Rattle.step.specs.Turns.{Kept}
 
@@ -167,3 +168,18 @@ kept-then a b c m n h f g = record {
   long = g .long ∙ f .long;
   rest = λ i k. g .rest i k ∙ f .rest i (omega arith);
 }
+
+-- ---- a push that depends on the level of a test and on the context
+
+module _ (pile : List ℕ) (n level x : ℕ) where
+  guard-law : (b : Bool) → b ≡ (provisional level || not (eqb n 0)) → (provisional level || context (setsOf pile n)) ≡ b
+  guard-law b e = ap (λ (c : Bool). provisional level || c) (context-law pile n) ∙ sym e
+
+  pub pushed-law :
+      true ≡ (provisional level || not (eqb n 0)) → n < length pile
+      → setsOf (set pile n x) (n + 1) ≡ push (provisional level || context (setsOf pile n)) x (setsOf pile n)
+  pushed-law e h = sets-push pile n x h ∙ sym (ap (λ (b : Bool). push b x (setsOf pile n)) (guard-law true e))
+
+  pub unpushed-law :
+      false ≡ (provisional level || not (eqb n 0)) → setsOf pile n ≡ push (provisional level || context (setsOf pile n)) x (setsOf pile n)
+  unpushed-law e = sym (ap (λ (b : Bool). push b x (setsOf pile n)) (guard-law false e))
