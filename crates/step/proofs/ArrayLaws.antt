@@ -15,7 +15,8 @@ use Rattle.rules.specs.Marks.{provisional}
 use Rattle.rules.specs.Trees.{stmtAt}
 use Rattle.rules.specs.Running.{Item, statement, close, Record, context, push}
 use Rattle.step.specs.Denoted.{itemOf, itemsOf, setsOf, recordsOf, Entry, Entries}
-use Rattle.step.specs.Turns.{Kept}
+use Rattle.step.specs.Turns.{Kept, Ready, Opened}
+use Rattle.step.specs.declared.Held.{Held}
 
 -- ---- one entry
 
@@ -183,3 +184,95 @@ module _ (pile : List ℕ) (n level x : ℕ) where
   pub unpushed-law :
       false ≡ (provisional level || not (eqb n 0)) → setsOf pile n ≡ push (provisional level || context (setsOf pile n)) x (setsOf pile n)
   unpushed-law e = sym (ap (λ (b : Bool). push b x (setsOf pile n)) (guard-law false e))
+
+-- ---- what an if or while opens
+
+module _ (rows : List Row) (e : List ℕ) (n : ℕ) (long : length e ≡ 1025) (few : n < 1025) (named : Entries rows e n) where
+  -- a close on top
+  close-items : itemsOf rows (set e n 0) (n + 1) ≡ close ∷ itemsOf rows e n
+  close-items = items-push rows e n 0 (omega arith) ∙ ap (λ (x : Item). x ∷ itemsOf rows e n) (item-close rows 0 refl)
+
+  close-named : Entries rows (set e n 0) (n + 1)
+  close-named = entries-push rows e n 0 (omega arith) (λ some. absurd (some refl)) named
+
+  -- a close, and a statement on top of it
+  two-items : (x : ℕ) → n + 1 < 1025 → itemsOf rows (set (set e n 0) (n + 1) (x + 1)) (n + 1 + 1) ≡ statement (stmtAt rows x) ∷ close ∷ itemsOf rows e n
+  two-items x h =
+      items-push rows (set e n 0) (n + 1) (x + 1) (omega (arith, length-set e n 0))
+      ∙ ap₂ (λ (y : Item) (k : List Item). y ∷ k) (item-row rows x) close-items
+
+  two-named : (x : ℕ) → n + 1 < 1025 → Entry rows (x + 1) → Entries rows (set (set e n 0) (n + 1) (x + 1)) (n + 1 + 1)
+  two-named x h entry = entries-push rows (set e n 0) (n + 1) (x + 1) (omega (arith, length-set e n 0)) entry close-named
+
+  two-long : (x : ℕ) → length (set (set e n 0) (n + 1) (x + 1)) ≡ 1025
+  two-long x = length-set (set e n 0) (n + 1) (x + 1) ∙ length-set e n 0 ∙ long
+
+module _ (rows : List Row) (e p : List ℕ) (h : Held) (level pushed : ℕ) (p′ : List ℕ) (height : ℕ) (long : length p′ ≡ 8)
+    (sets : setsOf p′ height ≡ push (provisional level || context (setsOf p (h .pile))) pushed (setsOf p (h .pile))) where
+  opened :
+      (k : List Item) (e′ : List ℕ) (n : ℕ) → itemsOf rows e′ n ≡ k → Entries rows e′ n → length e′ ≡ 1025
+      → Opened rows p h k level pushed e′ p′ (record { pending = n; pile = height; records = h .records; marks = h .marks })
+  opened k e′ n items named entries-long = record {
+    items = items;
+    named = named;
+    entries-long = entries-long;
+    sets = sets;
+    pile-long = long;
+    records = refl;
+    marks = refl;
+  }
+
+  -- a close in the place of the statement, and a statement on top of it
+  pub opened-branch :
+      (taken : ℕ) → Ready rows e p h 1 → Entry rows (taken + 1)
+      → Opened rows p h (statement (stmtAt rows taken) ∷ close ∷ itemsOf rows e (h .pending - 1)) level pushed
+        (set (set e (h .pending - 1) 0) (h .pending) (taken + 1)) p′
+        (record { pending = h .pending + 1; pile = height; records = h .records; marks = h .marks })
+  opened-branch taken ready entry =
+      let some : 0 < h .pending = ready .some in
+      let few : h .pending + 1 ≤ 1025 = ready .few in
+      let m : ℕ = h .pending - 1 in
+      let back : m + 1 ≡ h .pending = omega arith in
+      let named : Entries rows e m = entries-rest rows e m (subst (Entries rows e) (sym back) (ready .named)) in
+      subst
+      (λ (q : ℕ). Opened rows p h (statement (stmtAt rows taken) ∷ close ∷ itemsOf rows e m) level pushed (set (set e m 0) q (taken + 1)) p′
+      (record { pending = q + 1; pile = height; records = h .records; marks = h .marks }))
+      back
+      (opened _ _ (m + 1 + 1) (two-items rows e m (ready .entries-long) (omega arith) named taken (omega arith))
+      (two-named rows e m (ready .entries-long) (omega arith) named taken (omega arith) entry)
+      (two-long rows e m (ready .entries-long) (omega arith) named taken))
+
+  -- a close in the place of the statement
+  pub opened-leave :
+      Ready rows e p h 0
+      → Opened rows p h (close ∷ itemsOf rows e (h .pending - 1)) level pushed (set e (h .pending - 1) 0) p′
+        (record { pending = h .pending; pile = height; records = h .records; marks = h .marks })
+  opened-leave ready =
+      let some : 0 < h .pending = ready .some in
+      let few : h .pending + 0 ≤ 1025 = ready .few in
+      let m : ℕ = h .pending - 1 in
+      let back : m + 1 ≡ h .pending = omega arith in
+      let named : Entries rows e m = entries-rest rows e m (subst (Entries rows e) (sym back) (ready .named)) in
+      subst
+      (λ (q : ℕ). Opened rows p h (close ∷ itemsOf rows e m) level pushed (set e m 0) p′
+      (record { pending = q; pile = height; records = h .records; marks = h .marks }))
+      back
+      (opened _ _ (m + 1) (close-items rows e m (ready .entries-long) (omega arith) named)
+      (close-named rows e m (ready .entries-long) (omega arith) named) (length-set e m 0 ∙ ready .entries-long))
+
+  -- a close and a statement on top of the loop, which stays
+  pub opened-turn :
+      (body : ℕ) → Ready rows e p h 2 → Entry rows (body + 1)
+      → Opened rows p h (statement (stmtAt rows body) ∷ close ∷ itemsOf rows e (h .pending)) level pushed
+        (set (set e (h .pending) 0) (h .pending + 1) (body + 1)) p′
+        (record { pending = h .pending + 2; pile = height; records = h .records; marks = h .marks })
+  opened-turn body ready entry =
+      let few : h .pending + 2 ≤ 1025 = ready .few in
+      let two : h .pending + 1 + 1 ≡ h .pending + 2 = omega arith in
+      subst
+      (λ (q : ℕ). Opened rows p h (statement (stmtAt rows body) ∷ close ∷ itemsOf rows e (h .pending)) level pushed
+      (set (set e (h .pending) 0) (h .pending + 1) (body + 1)) p′ (record { pending = q; pile = height; records = h .records; marks = h .marks }))
+      two
+      (opened _ _ (h .pending + 1 + 1) (two-items rows e (h .pending) (ready .entries-long) (omega arith) (ready .named) body (omega arith))
+      (two-named rows e (h .pending) (ready .entries-long) (omega arith) (ready .named) body (omega arith) entry)
+      (two-long rows e (h .pending) (ready .entries-long) (omega arith) (ready .named) body))

@@ -11,6 +11,7 @@ use Rattle.rules.specs.Marks.{provisional}
 use Rattle.rules.specs.Rows.{rowAt}
 use Rattle.rules.specs.Running.{Item, Record, Terms, context, push, outcome}
 use Rattle.rules.specs.Bounds.{Bounds}
+use Rattle.rules.specs.Sound.{Sound}
 use Rattle.rules.specs.Answers.{reached, termsOf}
 use Rattle.rules.proofs.RunLaws.{state, final}
 use Rattle.step.specs.declared.Held.{Held}
@@ -39,6 +40,16 @@ pub record Ends (rows : List Row) (w e p t : List ℕ) (h : Held) (w′ t′ : L
       → final (termsOf (length t)) (suc budget) (stateOf rows w e p t h steps) ≡ reached (outcome ended (stateOf rows w e p t h steps))
   pub words : w′ ≡ w
   pub trace : t′ ≡ t
+
+-- The arrays have room for what a statement opens: a set on the pile, and so many entries more.
+pub record Ready (rows : List Row) (e p : List ℕ) (h : Held) (more : ℕ) : Type 0 where
+  pub sound : Sound rows
+  pub entries-long : length e ≡ 1025
+  pub pile-long : length p ≡ 8
+  pub low : h .pile < 8
+  pub some : 0 < h .pending
+  pub few : h .pending + more ≤ 1025
+  pub named : Entries rows e (h .pending)
 
 -- A test of this level was looked at: these items are pending, and this set is pushed if the test or the context is
 -- provisional; records and marks are as they were.

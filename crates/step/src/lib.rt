@@ -19,14 +19,14 @@ ghost use lib.Dec.{eqb};
 ghost use lib.ListN.{length, getD};
 ghost use Rattle.rules.specs.declared.Kind.{Kind};
 ghost use Rattle.rules.specs.Limits.{width};
-ghost use Rattle.rules.specs.Marks.{none, put, provisional};
+ghost use Rattle.rules.specs.Marks.{none, put, union, provisional};
 ghost use Rattle.rules.specs.Rows.{rowsOf, rowAt};
 ghost use Rattle.rules.specs.Trees.{stmtAt};
 ghost use Rattle.rules.specs.Values.{mayAssign};
 ghost use Rattle.rules.specs.Running.{statement, close, context, push};
 ghost use Rattle.rules.specs.Sound.{Sound};
 ghost use Rattle.step.specs.Denoted.{itemsOf, setsOf, Entry, Entries, Holds};
-ghost use Rattle.step.specs.Turns.{Opened, TakenApart, Turned};
+ghost use Rattle.step.specs.Turns.{Ready, Opened, TakenApart, Turned};
 
 // An entry of the pending array is 0 for a close, and a statement's row and 1 for the statement. There are at most two
 // entries for each row of a table.
@@ -102,4 +102,103 @@ fn push_unrun(table: &[u32], pile: &mut [u32; SETS], height: usize, level: Marks
         return height + 1;
     }
     height
+}
+
+// The state after a close: the top of the pile, where there is one, is popped and added to the marks.
+fn closed_held(pile: &[u32; SETS], held: Held) -> Held
+    requires { ⌜ (length (now pile) ≡ 8) × (held .pile ≤ 8) × (0 < held .pending) ⌝ }
+    ensures empty { λ r. ⌜ (held .pile ≡ 0 → r ≡ record { pending = held .pending - 1; pile = held .pile; records = held .records; marks = held .marks }) ⌝ }
+    ensures popped { λ r. ⌜ ((held .pile ≡ 0 → ⊥) → r ≡ record { pending = held .pending - 1; pile = held .pile - 1; records = held .records; marks = union (getD (now (pile .entry)) (held .pile - 1) 0) (held .marks) }) ⌝ }
+{
+    let height = held.pile;
+    if height == 0 {
+        return Held {
+            pending: held.pending - 1,
+            pile: height,
+            records: held.records,
+            marks: held.marks,
+        };
+    }
+    let top = pile[height - 1];
+    Held {
+        pending: held.pending - 1,
+        pile: height - 1,
+        records: held.records,
+        marks: joined(top, held.marks),
+    }
+}
+
+// Opens a branch: it comes next, then a close; what the other branch may assign is pushed if the test or the context is
+// provisional.
+fn open_branch(
+    table: &[u32],
+    entries: &mut [u32; ENTRIES],
+    pile: &mut [u32; SETS],
+    held: Held,
+    level: Marks,
+    taken: u32,
+    other: u32,
+) -> Held
+    requires { ⌜ Ready (rowsOf (now table)) (now entries) (now pile) held 1 × Entry (rowsOf (now table)) (taken + 1) × (taken < length (rowsOf (now table))) × (other < length (rowsOf (now table))) ⌝ }
+    ensures { λ r. ⌜ Opened (rowsOf (now (table .entry))) (now (pile .entry)) held (statement (stmtAt (rowsOf (now (table .entry))) taken) ∷ close ∷ itemsOf (rowsOf (now (table .entry))) (now (entries .entry)) (held .pending - 1)) level (mayAssign (stmtAt (rowsOf (now (table .entry))) other)) (now (entries .exit)) (now (pile .exit)) r ⌝ }
+{
+    let n = held.pending;
+    entries[n - 1] = 0;
+    entries[n] = taken + 1;
+    let height = push_unrun(table, pile, held.pile, level, other);
+    Held {
+        pending: n + 1,
+        pile: height,
+        records: held.records,
+        marks: held.marks,
+    }
+}
+
+// Leaves a loop whose test fails: a close comes next; what the body may assign is pushed if the test or the context is
+// provisional.
+fn leave_loop(
+    table: &[u32],
+    entries: &mut [u32; ENTRIES],
+    pile: &mut [u32; SETS],
+    held: Held,
+    level: Marks,
+    body: u32,
+) -> Held
+    requires { ⌜ Ready (rowsOf (now table)) (now entries) (now pile) held 0 × (body < length (rowsOf (now table))) ⌝ }
+    ensures { λ r. ⌜ Opened (rowsOf (now (table .entry))) (now (pile .entry)) held (close ∷ itemsOf (rowsOf (now (table .entry))) (now (entries .entry)) (held .pending - 1)) level (mayAssign (stmtAt (rowsOf (now (table .entry))) body)) (now (entries .exit)) (now (pile .exit)) r ⌝ }
+{
+    let n = held.pending;
+    entries[n - 1] = 0;
+    let height = push_unrun(table, pile, held.pile, level, body);
+    Held {
+        pending: n,
+        pile: height,
+        records: held.records,
+        marks: held.marks,
+    }
+}
+
+// Turns a loop whose test holds: the body comes next, then a close, then the same loop; the empty set is pushed if the test
+// or the context is provisional.
+fn turn_loop(
+    table: &[u32],
+    entries: &mut [u32; ENTRIES],
+    pile: &mut [u32; SETS],
+    held: Held,
+    level: Marks,
+    body: u32,
+) -> Held
+    requires { ⌜ Ready (rowsOf (now table)) (now entries) (now pile) held 2 × Entry (rowsOf (now table)) (body + 1) × (body < length (rowsOf (now table))) ⌝ }
+    ensures { λ r. ⌜ Opened (rowsOf (now (table .entry))) (now (pile .entry)) held (statement (stmtAt (rowsOf (now (table .entry))) body) ∷ close ∷ itemsOf (rowsOf (now (table .entry))) (now (entries .entry)) (held .pending)) level none (now (entries .exit)) (now (pile .exit)) r ⌝ }
+{
+    let n = held.pending;
+    entries[n] = 0;
+    entries[n + 1] = body + 1;
+    let height = push_none(pile, held.pile, level);
+    Held {
+        pending: n + 2,
+        pile: height,
+        records: held.records,
+        marks: held.marks,
+    }
 }
