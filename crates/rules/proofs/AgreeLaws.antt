@@ -3,6 +3,7 @@ use Prim.Native.Nat.{ℕ}
 use mathlib.Core.Bool.{Bool, true, false, cond, not, true≢false}
 use mathlib.Core.List.{List}
 use mathlib.Core.Path.{_≡_, refl, sym, ap, ap₂, _∙_}
+use borrow.Author.Tests.{eq-eqb, ne-eqb}
 use lib.Dec.{T, eqb}
 use lib.ListN.{getD}
 use Rattle.rules.specs.Marks.{none, has, only, union, _⊆_, provisional}
@@ -52,3 +53,13 @@ level-mono a b sub (binary o d e) =
 
 pub level-rises : (a b : ℕ) → a ⊆ b → (e : Expr) → provisional (level a e) ≡ true → provisional (level b e) ≡ true
 level-rises a b sub e h = provisional-mono (level a e) (level b e) (level-mono a b sub e) h
+
+-- ---- a test holds when its value is not 0
+
+pub test-holds : (m : List ℕ) (e : Expr) → (value m e ≡ 0 → ⊥) → holds m e ≡ true
+unfolding holds
+test-holds m e other = ap not (ne-eqb (value m e) 0 other)
+
+pub test-fails : (m : List ℕ) (e : Expr) → value m e ≡ 0 → holds m e ≡ false
+unfolding holds
+test-fails m e same = ap not (eq-eqb (value m e) 0 same)

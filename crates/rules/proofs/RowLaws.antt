@@ -2,12 +2,12 @@
 use Prim.Native.Nat.{ℕ, _+_, _*_, _/_, _≤_, _<_}
 use native.Mathlib.Nat.{add-zero}
 use native.Mathlib.Omega.{arith}
-use mathlib.Core.Bool.{true, false}
+use mathlib.Core.Bool.{true, false, false≢true}
 use mathlib.Core.List.{List, [], _∷_, map}
 use mathlib.Core.Path.{_≡_, refl, sym, ap, _∙_}
 use mathlib.Core.Logic.{inl, inr}
 use denote.Enum.Declared.{tagOf}
-use types.Run.{OneOf}
+use types.Run.{OneOf, miss}
 use lib.ListN.{length, getD, drop}
 use borrow.Author.Tests.{ne-eqb}
 use Rattle.rules.specs.declared.Kind.{Kind}
@@ -194,3 +194,19 @@ pub row-within : (words : List ℕ) (i : ℕ) → i < length (rowsOf words) → 
 row-within words i h =
     let n : length (rowsOf words) ≡ length words / 4 = rows-length words in
     omega arith
+
+-- of the statements, only an output is neither skip nor assign, sequence, if or while
+pub output-left :
+    (kind : Kind) → OneOf (2 ∷ 5 ∷ 6 ∷ 7 ∷ 8 ∷ 9 ∷ []) (tagOf kind-type.the-type kind) → isStatement kind ≡ true → (kind ≡ Kind.Sequence → ⊥)
+    → kind ≡ Kind.Output
+unfolding isStatement
+output-left Kind.Skip among sort other = absurd (miss (2 ∷ 5 ∷ 6 ∷ 7 ∷ 8 ∷ 9 ∷ []) 0 tt among)
+output-left Kind.Assign among sort other = absurd (miss (2 ∷ 5 ∷ 6 ∷ 7 ∷ 8 ∷ 9 ∷ []) 1 tt among)
+output-left Kind.Sequence among sort other = absurd (other refl)
+output-left Kind.If among sort other = absurd (miss (2 ∷ 5 ∷ 6 ∷ 7 ∷ 8 ∷ 9 ∷ []) 3 tt among)
+output-left Kind.While among sort other = absurd (miss (2 ∷ 5 ∷ 6 ∷ 7 ∷ 8 ∷ 9 ∷ []) 4 tt among)
+output-left Kind.Output among sort other = refl
+output-left Kind.Constant among sort other = absurd (false≢true sort)
+output-left Kind.Variable among sort other = absurd (false≢true sort)
+output-left Kind.Binary among sort other = absurd (false≢true sort)
+output-left Kind.Unknown among sort other = absurd (false≢true sort)

@@ -1,8 +1,9 @@
 -- The arrays as stacks and as a list of records: what a store makes of the items, the sets and the records that they hold.
-use Prim.Native.Nat.{ℕ, zero, suc, _+_, _-_, _*_, _≤_, _<_}
+use Prim.Native.Nat.{ℕ, zero, suc, _+_, _-_, _*_, _%_, _≤_, _<_}
+use native.Mathlib.Nat.{mod-eq-of-lt}
 use native.Mathlib.Numerals.{add-one}
 use native.Mathlib.Omega.{arith}
-use mathlib.Core.Bool.{Bool, true, false, cond, not, _||_}
+use mathlib.Core.Bool.{Bool, true, false, cond, not, _||_, _&&_, true≢false}
 use mathlib.Core.List.{List, [], _∷_, _++_}
 use mathlib.Core.Logic.{_≢_}
 use mathlib.Core.Path.{_≡_, refl, sym, ap, ap₂, _∙_, subst}
@@ -11,8 +12,13 @@ use lib.ListN.{length, getD, set, length-set, length-append}
 use lib.Seq.{getD-set-same, getD-set-other}
 use borrow.Author.Tests.{eq-eqb, ne-eqb}
 use Rattle.rules.specs.declared.Row.{Row}
-use Rattle.rules.specs.Marks.{provisional}
-use Rattle.rules.specs.Trees.{stmtAt}
+use Rattle.rules.specs.Limits.{width}
+use Rattle.rules.specs.Marks.{put, provisional}
+use Rattle.rules.specs.Trees.{Expr, stmtAt}
+use Rattle.rules.specs.Values.{value, holds, level}
+use Rattle.rules.proofs.AgreeLaws.{test-holds, test-fails}
+use Rattle.expression.specs.declared.values.Valued.{Valued}
+use Rattle.expression.specs.Valued.{valuedOf}
 use Rattle.rules.specs.Running.{Item, statement, close, Record, context, push}
 use Rattle.step.specs.Denoted.{itemOf, itemsOf, setsOf, recordsOf, Entry, Entries}
 use Rattle.step.specs.Turns.{Kept, Ready, Opened}
@@ -226,8 +232,8 @@ module _ (rows : List Row) (e p : List ℕ) (h : Held) (level pushed : ℕ) (p�
   pub opened-branch :
       (taken : ℕ) → Ready rows e p h 1 → Entry rows (taken + 1)
       → Opened rows p h (statement (stmtAt rows taken) ∷ close ∷ itemsOf rows e (h .pending - 1)) level pushed
-        (set (set e (h .pending - 1) 0) (h .pending) (taken + 1)) p′
-        (record { pending = h .pending + 1; pile = height; records = h .records; marks = h .marks })
+      (set (set e (h .pending - 1) 0) (h .pending) (taken + 1)) p′
+      (record { pending = h .pending + 1; pile = height; records = h .records; marks = h .marks })
   opened-branch taken ready entry =
       let some : 0 < h .pending = ready .some in
       let few : h .pending + 1 ≤ 1025 = ready .few in
@@ -246,7 +252,7 @@ module _ (rows : List Row) (e p : List ℕ) (h : Held) (level pushed : ℕ) (p�
   pub opened-leave :
       Ready rows e p h 0
       → Opened rows p h (close ∷ itemsOf rows e (h .pending - 1)) level pushed (set e (h .pending - 1) 0) p′
-        (record { pending = h .pending; pile = height; records = h .records; marks = h .marks })
+      (record { pending = h .pending; pile = height; records = h .records; marks = h .marks })
   opened-leave ready =
       let some : 0 < h .pending = ready .some in
       let few : h .pending + 0 ≤ 1025 = ready .few in
@@ -264,8 +270,8 @@ module _ (rows : List Row) (e p : List ℕ) (h : Held) (level pushed : ℕ) (p�
   pub opened-turn :
       (body : ℕ) → Ready rows e p h 2 → Entry rows (body + 1)
       → Opened rows p h (statement (stmtAt rows body) ∷ close ∷ itemsOf rows e (h .pending)) level pushed
-        (set (set e (h .pending) 0) (h .pending + 1) (body + 1)) p′
-        (record { pending = h .pending + 2; pile = height; records = h .records; marks = h .marks })
+      (set (set e (h .pending) 0) (h .pending + 1) (body + 1)) p′
+      (record { pending = h .pending + 2; pile = height; records = h .records; marks = h .marks })
   opened-turn body ready entry =
       let few : h .pending + 2 ≤ 1025 = ready .few in
       let two : h .pending + 1 + 1 ≡ h .pending + 2 = omega arith in
@@ -276,3 +282,44 @@ module _ (rows : List Row) (e p : List ℕ) (h : Held) (level pushed : ℕ) (p�
       (opened _ _ (h .pending + 1 + 1) (two-items rows e (h .pending) (ready .entries-long) (omega arith) (ready .named) body (omega arith))
       (two-named rows e (h .pending) (ready .entries-long) (omega arith) (ready .named) body (omega arith) entry)
       (two-long rows e (h .pending) (ready .entries-long) (omega arith) (ready .named) body))
+
+-- ---- an expression that was evaluated
+
+module _ (w : List ℕ) (marks : ℕ) (x : Expr) (v : Valued) (evaluated : v ≡ valuedOf w marks x) where
+  pub level-found : v .level ≡ level marks x
+  level-found = ap (λ (y : Valued). y .level) evaluated
+
+  pub value-found : v .value ≡ value w x
+  value-found = ap (λ (y : Valued). y .value) evaluated
+
+  pub found-holds : {A : Type 0} → (v .value ≡ 0 → ⊥) → holds w x ≡ false → A
+  found-holds other fails = absurd (true≢false (sym (test-holds w x (λ e. other (value-found ∙ e))) ∙ fails))
+
+  pub found-fails : {A : Type 0} → v .value ≡ 0 → holds w x ≡ true → A
+  found-fails same holds′ = absurd (true≢false (sym holds′ ∙ test-fails w x (sym value-found ∙ same)))
+
+  -- the marks after an assignment to a variable of the table
+  pub marks-found :
+      (p height m : ℕ) (bit : Bool) → p < width → bit ≡ (provisional (v .level) || not (eqb height 0)) → m ≡ put (p % width) bit marks
+      → m ≡ put p (provisional (level marks x) || not (eqb height 0)) marks
+  marks-found p height m bit small eb em =
+      em ∙ ap₂ (λ (i : ℕ) (b : Bool). put i b marks) (mod-eq-of-lt small) (eb ∙ ap (λ (l : ℕ). provisional l || not (eqb height 0)) level-found)
+
+  -- whether an output of it is denied
+  pub denied-found :
+      (channel height : ℕ) (b d : Bool) → d ≡ (eqb channel 0 && (provisional (v .level) || not (eqb height 0))) → d ≡ b
+      → (eqb channel 0 && (provisional (level marks x) || not (eqb height 0))) ≡ b
+  denied-found channel height b d e known =
+      ap (λ (l : ℕ). eqb channel 0 && (provisional l || not (eqb height 0))) (sym level-found) ∙ sym e ∙ known
+
+-- with room for more entries there is room for fewer
+pub ready-less : (rows : List Row) (e p : List ℕ) (h : Held) (more fewer : ℕ) → fewer ≤ more → Ready rows e p h more → Ready rows e p h fewer
+ready-less rows e p h more fewer le ready = record {
+  sound = ready .sound;
+  entries-long = ready .entries-long;
+  pile-long = ready .pile-long;
+  low = ready .low;
+  some = ready .some;
+  few = omega (arith, ready .few);
+  named = ready .named;
+}

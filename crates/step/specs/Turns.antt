@@ -1,14 +1,17 @@
 -- What a step does to the state that the arrays hold.
 use Prim.Native.Nat.{ℕ, suc, _+_, _-_, _*_, _≤_, _<_}
-use mathlib.Core.Bool.{_||_}
+use mathlib.Core.Bool.{Bool, true, false, not, _||_, _&&_}
+use lib.Dec.{eqb}
 use mathlib.Core.List.{List}
 use mathlib.Core.Path.{_≡_}
-use lib.ListN.{length, getD}
+use lib.ListN.{length, getD, set}
 use Rattle.rules.specs.declared.Row.{Row}
 use Rattle.rules.specs.declared.Ended.{Ended}
 use Rattle.rules.specs.declared.Kind.{Kind}
 use Rattle.rules.specs.Marks.{provisional}
 use Rattle.rules.specs.Rows.{rowAt}
+use Rattle.rules.specs.Trees.{Expr}
+use Rattle.rules.specs.Values.{value, level}
 use Rattle.rules.specs.Running.{Item, Record, Terms, context, push, outcome}
 use Rattle.rules.specs.Bounds.{Bounds}
 use Rattle.rules.specs.Sound.{Sound}
@@ -77,6 +80,18 @@ pub record TakenApart (rows : List Row) (e : List ℕ) (n : ℕ) (e′ : List �
   pub apart : Apart rows e n e′ n′
   pub statement-next : getD e′ (n′ - 1) 0 ≡ 0 → ⊥
   pub no-sequence : rowAt rows (getD e′ (n′ - 1) 0 - 1) .kind ≡ Kind.Sequence → ⊥
+
+-- Whether the monitor denies an output on this channel of an expression, by the marks and the height of the pile.
+abbrev pub denies : ℕ → Expr → Held → Bool
+denies channel e h = eqb channel 0 && (provisional (level (h .marks) e) || not (eqb (h .pile) 0))
+
+-- What comes of the output at a row, on this channel, of this expression: the trace afterwards, and the turn.
+abbrev pub PutOut : ℕ → ℕ → Expr → List ℕ → List ℕ → Held → List ℕ → Turn → Type 0
+PutOut at channel e w t h t′ (Went h′) =
+    (denies channel e h ≡ false) × (h .records * 2 + 1 < length t) × (t′ ≡ set (set t (h .records * 2) channel) (h .records * 2 + 1) (value w e))
+    × (h′ ≡ record { pending = h .pending - 1; pile = h .pile; records = h .records + 1; marks = h .marks })
+PutOut at channel e w t h t′ (Stopped row) = (row ≡ at) × (denies channel e h ≡ true) × (t′ ≡ t)
+PutOut at channel e w t h t′ (NoRoom row) = (row ≡ at) × (denies channel e h ≡ false) × (length t ≤ h .records * 2 + 1) × (t′ ≡ t)
 
 -- what a turn says of the arrays before and after
 abbrev pub Turned : List Row → List ℕ → List ℕ → List ℕ → List ℕ → Held → List ℕ → List ℕ → List ℕ → List ℕ → Turn → Type 0

@@ -16,17 +16,17 @@ ghost use mathlib.Core.List.{_∷_};
 ghost use mathlib.Core.Path.{_≡_};
 ghost use Prim.Native.Nat.{ℕ, _+_, _-_, _*_, _%_, _<_, _≤_};
 ghost use lib.Dec.{eqb};
-ghost use lib.ListN.{length, getD};
+ghost use lib.ListN.{length, getD, set};
 ghost use Rattle.rules.specs.declared.Kind.{Kind};
 ghost use Rattle.rules.specs.Limits.{width};
 ghost use Rattle.rules.specs.Marks.{none, put, union, provisional};
 ghost use Rattle.rules.specs.Rows.{rowsOf, rowAt};
-ghost use Rattle.rules.specs.Trees.{stmtAt};
-ghost use Rattle.rules.specs.Values.{mayAssign};
+ghost use Rattle.rules.specs.Trees.{exprAt, stmtAt};
+ghost use Rattle.rules.specs.Values.{value, holds, level, mayAssign};
 ghost use Rattle.rules.specs.Running.{statement, close, context, push};
 ghost use Rattle.rules.specs.Sound.{Sound};
 ghost use Rattle.step.specs.Denoted.{itemsOf, setsOf, Entry, Entries, Holds};
-ghost use Rattle.step.specs.Turns.{Ready, Opened, TakenApart, Turned};
+ghost use Rattle.step.specs.Turns.{Ready, Opened, TakenApart, PutOut, Turned};
 
 // An entry of the pending array is 0 for a close, and a statement's row and 1 for the statement. There are at most two
 // entries for each row of a table.
@@ -201,4 +201,91 @@ fn turn_loop(
         records: held.records,
         marks: held.marks,
     }
+}
+
+// An assignment: the variable takes the value, and is marked if the expression or the context is provisional, else unmarked.
+fn assign(table: &[u32], words: &mut [u32; VARIABLES], held: Held, row: Row) -> Held
+    requires { ⌜ Sound (rowsOf (now table)) × (length (now words) ≡ width) × (row .q < length (rowsOf (now table))) × (row .p < width) × (0 < held .pending) ⌝ }
+    ensures stored { λ r. ⌜ now (words .exit) ≡ set (now (words .entry)) (row .p) (value (now (words .entry)) (exprAt (rowsOf (now (table .entry))) (row .q))) ⌝ }
+    ensures marked { λ r. ⌜ r ≡ record { pending = held .pending - 1; pile = held .pile; records = held .records; marks = put (row .p) (provisional (level (held .marks) (exprAt (rowsOf (now (table .entry))) (row .q))) || not (eqb (held .pile) 0)) (held .marks) } ⌝ }
+{
+    let right = evaluate(table, row.q, words, held.marks);
+    store_lent(words, row.p, right.value);
+    let bit = is_guarded(right.level, held.pile);
+    Held {
+        pending: held.pending - 1,
+        pile: held.pile,
+        records: held.records,
+        marks: mark_as(held.marks, row.p, bit),
+    }
+}
+
+// An if: the branch that the test takes is opened.
+fn branch(
+    table: &[u32],
+    words: &[u32; VARIABLES],
+    entries: &mut [u32; ENTRIES],
+    pile: &mut [u32; SETS],
+    held: Held,
+    row: Row,
+) -> Held
+    requires { ⌜ Ready (rowsOf (now table)) (now entries) (now pile) held 1 × (length (now words) ≡ width) × (row .p < length (rowsOf (now table))) × (Entry (rowsOf (now table)) (row .q + 1) × (row .q < length (rowsOf (now table)))) × (Entry (rowsOf (now table)) (row .r + 1) × (row .r < length (rowsOf (now table)))) ⌝ }
+    ensures then { λ r. ⌜ (holds (now (words .entry)) (exprAt (rowsOf (now (table .entry))) (row .p)) ≡ true → Opened (rowsOf (now (table .entry))) (now (pile .entry)) held (statement (stmtAt (rowsOf (now (table .entry))) (row .q)) ∷ close ∷ itemsOf (rowsOf (now (table .entry))) (now (entries .entry)) (held .pending - 1)) (level (held .marks) (exprAt (rowsOf (now (table .entry))) (row .p))) (mayAssign (stmtAt (rowsOf (now (table .entry))) (row .r))) (now (entries .exit)) (now (pile .exit)) r) ⌝ }
+    ensures otherwise { λ r. ⌜ (holds (now (words .entry)) (exprAt (rowsOf (now (table .entry))) (row .p)) ≡ false → Opened (rowsOf (now (table .entry))) (now (pile .entry)) held (statement (stmtAt (rowsOf (now (table .entry))) (row .r)) ∷ close ∷ itemsOf (rowsOf (now (table .entry))) (now (entries .entry)) (held .pending - 1)) (level (held .marks) (exprAt (rowsOf (now (table .entry))) (row .p))) (mayAssign (stmtAt (rowsOf (now (table .entry))) (row .q))) (now (entries .exit)) (now (pile .exit)) r) ⌝ }
+{
+    let test = evaluate(table, row.p, words, held.marks);
+    if test.value != 0 {
+        return open_branch(table, entries, pile, held, test.level, row.q, row.r);
+    }
+    open_branch(table, entries, pile, held, test.level, row.r, row.q)
+}
+
+// A while: turned where its test holds, else left.
+fn loop_on(
+    table: &[u32],
+    words: &[u32; VARIABLES],
+    entries: &mut [u32; ENTRIES],
+    pile: &mut [u32; SETS],
+    held: Held,
+    row: Row,
+) -> Held
+    requires { ⌜ Ready (rowsOf (now table)) (now entries) (now pile) held 2 × (length (now words) ≡ width) × (row .p < length (rowsOf (now table))) × (Entry (rowsOf (now table)) (row .q + 1) × (row .q < length (rowsOf (now table)))) ⌝ }
+    ensures turns { λ r. ⌜ (holds (now (words .entry)) (exprAt (rowsOf (now (table .entry))) (row .p)) ≡ true → Opened (rowsOf (now (table .entry))) (now (pile .entry)) held (statement (stmtAt (rowsOf (now (table .entry))) (row .q)) ∷ close ∷ itemsOf (rowsOf (now (table .entry))) (now (entries .entry)) (held .pending)) (level (held .marks) (exprAt (rowsOf (now (table .entry))) (row .p))) none (now (entries .exit)) (now (pile .exit)) r) ⌝ }
+    ensures leaves { λ r. ⌜ (holds (now (words .entry)) (exprAt (rowsOf (now (table .entry))) (row .p)) ≡ false → Opened (rowsOf (now (table .entry))) (now (pile .entry)) held (close ∷ itemsOf (rowsOf (now (table .entry))) (now (entries .entry)) (held .pending - 1)) (level (held .marks) (exprAt (rowsOf (now (table .entry))) (row .p))) (mayAssign (stmtAt (rowsOf (now (table .entry))) (row .q))) (now (entries .exit)) (now (pile .exit)) r) ⌝ }
+{
+    let test = evaluate(table, row.p, words, held.marks);
+    if test.value != 0 {
+        return turn_loop(table, entries, pile, held, test.level, row.q);
+    }
+    leave_loop(table, entries, pile, held, test.level, row.q)
+}
+
+// An output: a record, unless it is denied or there is no room.
+fn put_out(
+    table: &[u32],
+    words: &[u32; VARIABLES],
+    trace: &mut [u32],
+    held: Held,
+    at: u32,
+    row: Row,
+) -> Turn
+    requires { ⌜ Sound (rowsOf (now table)) × (length (now words) ≡ width) × (row .q < length (rowsOf (now table))) × (0 < held .pending) × (held .records * 2 ≤ length (now trace)) ⌝ }
+    ensures { λ r. ⌜ PutOut at (row .p) (exprAt (rowsOf (now (table .entry))) (row .q)) (now (words .entry)) (now (trace .entry)) held (now (trace .exit)) r ⌝ }
+{
+    let shown = evaluate(table, row.q, words, held.marks);
+    if is_denied(row.p, shown.level, held.pile) {
+        return Turn::Stopped(at);
+    }
+    let first = held.records * 2;
+    if trace.len() <= first + 1 {
+        return Turn::NoRoom(at);
+    }
+    trace[first] = row.p;
+    trace[first + 1] = shown.value;
+    Turn::Went(Held {
+        pending: held.pending - 1,
+        pile: held.pile,
+        records: held.records + 1,
+        marks: held.marks,
+    })
 }
