@@ -4,7 +4,7 @@ use native.Mathlib.Nat.{add-zero}
 use native.Mathlib.Omega.{arith}
 use mathlib.Core.Bool.{true, false, false≢true}
 use mathlib.Core.List.{List, [], _∷_, map}
-use mathlib.Core.Path.{_≡_, refl, sym, ap, _∙_}
+use mathlib.Core.Path.{_≡_, refl, sym, ap, _∙_, subst}
 use mathlib.Core.Logic.{inl, inr}
 use denote.Enum.Declared.{tagOf}
 use types.Run.{OneOf, miss}
@@ -210,3 +210,10 @@ output-left Kind.Constant among sort other = absurd (false≢true sort)
 output-left Kind.Variable among sort other = absurd (false≢true sort)
 output-left Kind.Binary among sort other = absurd (false≢true sort)
 output-left Kind.Unknown among sort other = absurd (false≢true sort)
+
+-- a sequence is at no other place of the kinds
+pub not-sequence :
+    (kind : Kind) → OneOf (0 ∷ 1 ∷ 3 ∷ 4 ∷ 5 ∷ 6 ∷ 7 ∷ 8 ∷ 9 ∷ []) (tagOf kind-type.the-type kind) → kind ≡ Kind.Sequence → ⊥
+not-sequence kind among e =
+    miss (0 ∷ 1 ∷ 3 ∷ 4 ∷ 5 ∷ 6 ∷ 7 ∷ 8 ∷ 9 ∷ []) 2 tt
+    (subst (λ (k : Kind). OneOf (0 ∷ 1 ∷ 3 ∷ 4 ∷ 5 ∷ 6 ∷ 7 ∷ 8 ∷ 9 ∷ []) (tagOf kind-type.the-type k)) e among)

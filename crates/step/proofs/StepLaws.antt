@@ -16,13 +16,18 @@ use Rattle.rules.specs.Marks.{none, put, union, provisional}
 use Rattle.rules.specs.Trees.{Expr, Stmt, skip, assign, sequence, if, while, output, stmtAt, exprAt, nesting}
 use Rattle.rules.specs.Values.{value, holds, level, mayAssign}
 use Rattle.rules.specs.Running.{Item, statement, close, Record, State, Terms, context, push, outcome}
-use Rattle.rules.specs.Bounds.{need, Bounds}
+use Rattle.rules.specs.declared.Kind.{Kind}
+use Rattle.rules.specs.Sound.{Sound}
+use Rattle.rules.specs.Bounds.{need, Roomy, Bounds}
+use Rattle.rules.proofs.StatementLaws.{is-sequence}
 use Rattle.rules.specs.Answers.{Whole, reached, termsOf}
 use Rattle.rules.proofs.RunLaws.{state, final, run-sequence, run-skip, run-assign, run-close, run-close-empty, run-then, run-else, run-turn, run-leave, run-denied, run-roomless, run-record}
-use Rattle.rules.proofs.BoundLaws.{bounds-kept}
+use Rattle.rules.proofs.BoundLaws.{bounds-kept, need-pos}
+use lib.Pow.{pow-pos}
+use lib.Seq.{getD-set-same}
 use Rattle.step.specs.declared.Held.{Held}
 use Rattle.step.specs.Denoted.{itemOf, itemsOf, setsOf, recordsOf, stateOf, Entry, Entries, Holds}
-use Rattle.step.specs.Turns.{Kept, Goes, Ends, Opened, Apart}
+use Rattle.step.specs.Turns.{Kept, Goes, Ends, Opened, Apart, Found}
 use Rattle.rules.proofs.AnswerLaws.{room-law}
 use Rattle.step.proofs.ArrayLaws.{item-close, item-statement, item-row, items-pop, items-push, entries-push, entries-top, entries-rest, sets-pop, sets-push, sets-none, sets-length, items-length, records-push, records-length, kept-push, kept-same}
 
@@ -98,6 +103,56 @@ apart-one rows e n a c few long named next stands first second = record {
         items-push rows (set e n (c + 1)) (n + 1) (a + 1) (omega (arith, length-set e n (c + 1)))
         ∙ ap₂ (λ (x : Item) (k : List Item). x ∷ k) (item-row rows a)
         (items-push rows e n (c + 1) (omega arith) ∙ ap (λ (x : Item). x ∷ itemsOf rows e n) (item-row rows c))
+
+-- what Roomy items are, with any other parts of a state
+bare : (k : List Item) → Roomy k → Bounds k [] 0 [] []
+bare k roomy = record { marks = pow-pos width; pile = omega arith; sets = tt; roomy = roomy }
+
+-- one sequence more is taken apart, and its first statement is found on top
+pub apart-more :
+    (rows : List Row) → Sound rows → (e e′ : List ℕ) (n m i : ℕ) (row : Row) → Roomy (itemsOf rows e n) → Apart rows e n e′ m → Found rows e′ m i row
+    → row .kind ≡ Kind.Sequence
+    → (row .p < i) × (row .q < length rows) × (m < 1024)
+    × Apart rows e n (set (set e′ (m - 1) (row .q + 1)) m (row .p + 1)) (m + 1)
+    × Found rows (set (set e′ (m - 1) (row .q + 1)) m (row .p + 1)) (m + 1) (row .p) (rowAt rows (row .p))
+apart-more rows sound e e′ n m i row roomy apart found kind =
+    let is = is-sequence rows sound i (found .within) row (found .read) kind in
+    let some : 0 < m = found .some in
+    let within : i < length rows = found .within in
+    let j : ℕ = m - 1 in
+    let back : j + 1 ≡ m = omega arith in
+    let low : row .p < i = is .1 .lower in
+    let low′ : row .q < i = is .2 .lower in
+    let next : getD e′ j 0 ≢ 0 = λ z. omega (arith, found .next) in
+    let stands : stmtAt rows (getD e′ j 0 - 1) ≡ sequence (stmtAt rows (row .p)) (stmtAt rows (row .q)) =
+    ap (stmtAt rows) (let g : getD e′ j 0 - 1 ≡ i = omega (arith, found .next) in g) ∙ is .0
+    in
+    let items : itemsOf rows e′ m ≡ statement (sequence (stmtAt rows (row .p)) (stmtAt rows (row .q))) ∷ itemsOf rows e′ j =
+    ap (itemsOf rows e′) (sym back) ∙ items-pop rows e′ j
+    ∙ ap (λ (x : Item). x ∷ itemsOf rows e′ j) (item-statement rows (getD e′ j 0) next ∙ ap statement stands)
+    in
+    let room : Bounds (statement (sequence (stmtAt rows (row .p)) (stmtAt rows (row .q))) ∷ itemsOf rows e′ j) [] 0 [] [] =
+    subst (λ (k : List Item). Bounds k [] 0 [] []) items (apart .bounds [] 0 [] [] (bare (itemsOf rows e n) roomy))
+    in
+    let few : m < 1024 = omega (arith, room .roomy .1, items-length rows e′ j, need-pos (stmtAt rows (row .p))) in
+    let one : Apart rows e′ (j + 1) (set (set e′ j (row .q + 1)) (j + 1) (row .p + 1)) (j + 1 + 1) =
+    apart-one rows e′ j (row .p) (row .q) (omega arith) (apart .entries-long) (subst (Entries rows e′) (sym back) (apart .named)) next stands
+    (entry-of rows (row .p) (omega arith) (is .1 .sort)) (entry-of rows (row .q) (omega arith) (is .2 .sort))
+    in (
+      low,
+      omega arith,
+      few,
+      apart-then rows e e′ _ n m (m + 1) apart
+          (subst (λ (q : ℕ). Apart rows e′ q (set (set e′ j (row .q + 1)) q (row .p + 1)) (q + 1)) back one),
+      record {
+        some = omega arith;
+        next =
+            ap (λ (q : ℕ). getD (set (set e′ j (row .q + 1)) m (row .p + 1)) q 0) (let g : m + 1 - 1 ≡ m = omega arith in g)
+            ∙ getD-set-same (set e′ j (row .q + 1)) m (row .p + 1) 0 (omega (arith, length-set e′ j (row .q + 1), apart .entries-long));
+        read = refl;
+        within = omega arith;
+      },
+    )
 
 module _ (rows : List Row) (w e p t : List ℕ) (h : Held) (at : Holds rows w e p t h) (n : ℕ) (top : h .pending ≡ n + 1) where
   abbrev T : Terms

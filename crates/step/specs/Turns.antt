@@ -75,11 +75,12 @@ pub record Apart (rows : List Row) (e : List ℕ) (n : ℕ) (e′ : List ℕ) (n
   pub named : Entries rows e′ n′
   pub entries-long : length e′ ≡ 1025
 
--- All of them: what is next is a statement of another kind.
-pub record TakenApart (rows : List Row) (e : List ℕ) (n : ℕ) (e′ : List ℕ) (n′ : ℕ) : Type 0 where
-  pub apart : Apart rows e n e′ n′
-  pub statement-next : getD e′ (n′ - 1) 0 ≡ 0 → ⊥
-  pub no-sequence : rowAt rows (getD e′ (n′ - 1) 0 - 1) .kind ≡ Kind.Sequence → ⊥
+-- The item that is next is a statement, and this is its row.
+pub record Found (rows : List Row) (e : List ℕ) (n i : ℕ) (row : Row) : Type 0 where
+  pub some : 0 < n
+  pub next : getD e (n - 1) 0 ≡ i + 1
+  pub read : row ≡ rowAt rows i
+  pub within : i < length rows
 
 -- Whether the monitor denies an output on this channel of an expression, by the marks and the height of the pile.
 abbrev pub denies : ℕ → Expr → Held → Bool

@@ -24,9 +24,10 @@ ghost use Rattle.rules.specs.Rows.{rowsOf, rowAt};
 ghost use Rattle.rules.specs.Trees.{exprAt, stmtAt};
 ghost use Rattle.rules.specs.Values.{value, holds, level, mayAssign};
 ghost use Rattle.rules.specs.Running.{statement, close, context, push};
+ghost use Rattle.rules.specs.Bounds.{Roomy};
 ghost use Rattle.rules.specs.Sound.{Sound};
 ghost use Rattle.step.specs.Denoted.{itemsOf, setsOf, Entry, Entries, Holds};
-ghost use Rattle.step.specs.Turns.{Ready, Opened, TakenApart, PutOut, Turned};
+ghost use Rattle.step.specs.Turns.{Ready, Opened, Apart, Found, PutOut, Turned};
 
 // An entry of the pending array is 0 for a close, and a statement's row and 1 for the statement. There are at most two
 // entries for each row of a table.
@@ -48,6 +49,13 @@ pub enum Turn {
     Went(Held),
     Stopped(u32),
     NoRoom(u32),
+}
+
+// The statement that is next: its row, and how many items are pending with it.
+pub struct Next {
+    pub pending: usize,
+    pub at: u32,
+    pub row: Row,
 }
 
 // Whether an expression of this level, or the context of a pile of this height, is provisional.
@@ -288,4 +296,44 @@ fn put_out(
         records: held.records + 1,
         marks: held.marks,
     })
+}
+
+// Whether the row is a sequence.
+fn is_sequence(row: Row) -> bool
+    ensures { λ r. ⌜ (r ≡ true → row .kind ≡ Kind.Sequence) × (r ≡ false → row .kind ≡ Kind.Sequence → ⊥) ⌝ }
+{
+    let kind = row.kind;
+    match kind {
+        Kind::Sequence => true,
+        _ => false,
+    }
+}
+
+// Takes the sequences at the front of the pending items apart, which is no step: a sequence's second statement stands in its
+// place, and its first on top. Answers the statement that is next then.
+fn take_apart(
+    table: &[u32],
+    entries: &mut [u32; ENTRIES],
+    pending: usize,
+    at: u32,
+    row: Row,
+) -> Next
+    requires { ⌜ Sound (rowsOf (now table)) × (length (now entries) ≡ 1025) × Entries (rowsOf (now table)) (now entries) pending × Roomy (itemsOf (rowsOf (now table)) (now entries) pending) × Found (rowsOf (now table)) (now entries) pending at row ⌝ }
+    ensures { λ r. ⌜ Apart (rowsOf (now (table .entry))) (now (entries .entry)) pending (now (entries .exit)) (r .pending) × Found (rowsOf (now (table .entry))) (now (entries .exit)) (r .pending) (r .at) (r .row) × (r .row .kind ≡ Kind.Sequence → ⊥) ⌝ }
+{
+    let mut n = pending;
+    let mut i = at;
+    let mut here = row;
+    while is_sequence(here) {
+        entries[n - 1] = here.q + 1;
+        entries[n] = here.p + 1;
+        n += 1;
+        i = here.p;
+        here = read_row(table, i);
+    }
+    Next {
+        pending: n,
+        at: i,
+        row: here,
+    }
 }
