@@ -19,7 +19,7 @@ use Rattle.rules.specs.Values.{value, holds, level}
 use Rattle.rules.proofs.AgreeLaws.{test-holds, test-fails}
 use Rattle.expression.specs.declared.values.Valued.{Valued}
 use Rattle.expression.specs.Valued.{valuedOf}
-use Rattle.rules.specs.Running.{Item, statement, close, Record, context, push}
+use Rattle.rules.specs.Running.{Item, statement, close, context, push}
 use Rattle.step.specs.Denoted.{itemOf, itemsOf, setsOf, recordsOf, Entry, Entries}
 use Rattle.step.specs.Turns.{Kept, Ready, Opened}
 use Rattle.step.specs.declared.Held.{Held}

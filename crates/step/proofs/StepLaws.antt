@@ -1,7 +1,7 @@
 -- Each kind of step, on the arrays: from what the code stored to the rules' step.
-use Prim.Native.Nat.{ℕ, zero, suc, _+_, _-_, _*_, _/_, _≤_, _<_}
+use Prim.Native.Nat.{ℕ, suc, _+_, _-_, _*_, _≤_, _<_}
 use native.Mathlib.Omega.{arith}
-use mathlib.Core.Bool.{Bool, true, false, cond, not, _||_, _&&_}
+use mathlib.Core.Bool.{true, false, _||_, _&&_}
 use mathlib.Core.List.{List, [], _∷_, _++_}
 use mathlib.Core.Logic.{_≢_}
 use mathlib.Core.Path.{_≡_, refl, sym, ap, ap₂, _∙_, subst}
@@ -13,23 +13,23 @@ use Rattle.rules.specs.declared.Ended.{Ended}
 use Rattle.rules.specs.Limits.{width}
 use Rattle.rules.specs.Rows.{isStatement, rowAt}
 use Rattle.rules.specs.Marks.{none, put, union, provisional}
-use Rattle.rules.specs.Trees.{Expr, Stmt, skip, assign, sequence, if, while, output, stmtAt, exprAt, nesting}
+use Rattle.rules.specs.Trees.{Expr, Stmt, skip, assign, sequence, if, while, output, stmtAt, nesting}
 use Rattle.rules.specs.Values.{value, holds, level, mayAssign}
-use Rattle.rules.specs.Running.{Item, statement, close, Record, State, Terms, context, push, outcome}
+use Rattle.rules.specs.Running.{Item, statement, close, Record, Terms, context, push, outcome}
 use Rattle.rules.specs.declared.Kind.{Kind}
 use Rattle.rules.specs.Sound.{Sound}
 use Rattle.rules.specs.Bounds.{need, Roomy, Bounds}
 use Rattle.rules.proofs.StatementLaws.{is-sequence}
-use Rattle.rules.specs.Answers.{Whole, reached, termsOf}
+use Rattle.rules.specs.Answers.{reached, termsOf}
 use Rattle.rules.proofs.RunLaws.{state, final, run-sequence, run-skip, run-assign, run-close, run-close-empty, run-then, run-else, run-turn, run-leave, run-denied, run-roomless, run-record}
 use Rattle.rules.proofs.BoundLaws.{bounds-kept, need-pos}
 use lib.Pow.{pow-pos}
 use lib.Seq.{getD-set-same}
 use Rattle.step.specs.declared.Held.{Held}
-use Rattle.step.specs.Denoted.{itemOf, itemsOf, setsOf, recordsOf, stateOf, Entry, Entries, Holds}
+use Rattle.step.specs.Denoted.{itemOf, itemsOf, setsOf, recordsOf, Entry, Entries, Holds}
 use Rattle.step.specs.Turns.{Kept, Goes, Ends, Opened, Apart, Found}
 use Rattle.rules.proofs.AnswerLaws.{room-law}
-use Rattle.step.proofs.ArrayLaws.{item-close, item-statement, item-row, items-pop, items-push, entries-push, entries-top, entries-rest, sets-pop, sets-push, sets-none, sets-length, items-length, records-push, records-length, kept-push, kept-same}
+use Rattle.step.proofs.ArrayLaws.{item-close, item-statement, item-row, items-pop, items-push, entries-push, entries-rest, sets-pop, sets-none, sets-length, items-length, records-push, records-length, kept-push, kept-same}
 
 -- the parts of a state, each written another way
 parts :

@@ -7,7 +7,6 @@ use mathlib.Core.Path.{_≡_}
 use lib.ListN.{length, getD, set}
 use Rattle.rules.specs.declared.Row.{Row}
 use Rattle.rules.specs.declared.Ended.{Ended}
-use Rattle.rules.specs.declared.Kind.{Kind}
 use Rattle.rules.specs.Marks.{provisional}
 use Rattle.rules.specs.Rows.{rowAt}
 use Rattle.rules.specs.Trees.{Expr}

@@ -337,3 +337,70 @@ fn take_apart(
         row: here,
     }
 }
+
+// The step of the statement that is next, which is no sequence.
+fn apply(
+    table: &[u32],
+    words: &mut [u32; VARIABLES],
+    entries: &mut [u32; ENTRIES],
+    pile: &mut [u32; SETS],
+    trace: &mut [u32],
+    held: Held,
+    at: u32,
+    row: Row,
+) -> Turn
+    requires { ⌜ Holds (rowsOf (now table)) (now words) (now entries) (now pile) (now trace) held × Found (rowsOf (now table)) (now entries) (held .pending) at row × (row .kind ≡ Kind.Sequence → ⊥) ⌝ }
+    ensures { λ r. ⌜ Turned (rowsOf (now (table .entry))) (now (words .entry)) (now (entries .entry)) (now (pile .entry)) (now (trace .entry)) held (now (words .exit)) (now (entries .exit)) (now (pile .exit)) (now (trace .exit)) r ⌝ }
+{
+    let kind = row.kind;
+    match kind {
+        Kind::Skip => Turn::Went(Held {
+            pending: held.pending - 1,
+            pile: held.pile,
+            records: held.records,
+            marks: held.marks,
+        }),
+        Kind::Assign => Turn::Went(assign(table, words, held, row)),
+        Kind::If => Turn::Went(branch(table, words, entries, pile, held, row)),
+        Kind::While => Turn::Went(loop_on(table, words, entries, pile, held, row)),
+        _ => put_out(table, words, trace, held, at, row),
+    }
+}
+
+// One step of the run: a close, or the statement that is next once the sequences at the front are taken apart.
+pub fn step(
+    table: &[u32],
+    words: &mut [u32; VARIABLES],
+    entries: &mut [u32; ENTRIES],
+    pile: &mut [u32; SETS],
+    trace: &mut [u32],
+    held: Held,
+) -> Turn
+    requires { ⌜ Holds (rowsOf (now table)) (now words) (now entries) (now pile) (now trace) held × (0 < held .pending) ⌝ }
+    ensures { λ r. ⌜ Turned (rowsOf (now (table .entry))) (now (words .entry)) (now (entries .entry)) (now (pile .entry)) (now (trace .entry)) held (now (words .exit)) (now (entries .exit)) (now (pile .exit)) (now (trace .exit)) r ⌝ }
+{
+    let n = held.pending;
+    let entry = entries[n - 1];
+    if entry == 0 {
+        return Turn::Went(closed_held(pile, held));
+    }
+    let row = read_row(table, entry - 1);
+    let next = take_apart(table, entries, n, entry - 1, row);
+    let opened = Held {
+        pending: next.pending,
+        pile: held.pile,
+        records: held.records,
+        marks: held.marks,
+    };
+    let statement = next.row;
+    apply(
+        table,
+        words,
+        entries,
+        pile,
+        trace,
+        opened,
+        next.at,
+        statement,
+    )
+}

@@ -1,8 +1,6 @@
 -- `step::branch` meets its contract.
-use mathlib.Core.Path.{_≡_}
 use Rattle.rules.specs.Rows.{rowsOf}
 use Rattle.rules.specs.Trees.{exprAt}
-use Rattle.rules.specs.Values.{level}
 use Rattle.step.proofs.ArrayLaws.{level-found, found-holds, found-fails}
 use borrow.Author.Needs.{needs}
 use Rattle.step.proofs.branch.Statement.{statement}

@@ -1,8 +1,6 @@
 -- `step::loop_on` meets its contract.
-use mathlib.Core.Path.{_≡_}
 use Rattle.rules.specs.Rows.{rowsOf}
 use Rattle.rules.specs.Trees.{exprAt}
-use Rattle.rules.specs.Values.{level}
 use native.Mathlib.Omega.{arith}
 use Rattle.step.proofs.ArrayLaws.{ready-less, level-found, found-holds, found-fails}
 use borrow.Author.Needs.{needs}

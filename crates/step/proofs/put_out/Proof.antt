@@ -1,7 +1,6 @@
 -- `step::put_out` meets its contract.
 use mathlib.Core.Path.{refl, ap}
 use mathlib.Core.Bool.{true, false}
-use native.Mathlib.Omega.{arith}
 use Prim.Native.Nat.{ℕ, _*_, _+_}
 use lib.ListN.{set}
 use Rattle.rules.specs.Rows.{rowsOf}

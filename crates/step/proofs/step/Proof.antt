@@ -1,0 +1,89 @@
+-- `step::step` meets its contract.
+use native.Mathlib.Omega.{arith}
+use mathlib.Core.Path.{refl}
+use Rattle.rules.specs.Rows.{rowsOf}
+use Rattle.rules.proofs.RowLaws.{row-within}
+use Rattle.step.proofs.ArmLaws.{few-entries, few-sets, arm-close, found-next, holds-apart, turned-apart}
+use borrow.Author.Needs.{needs}
+use Rattle.step.proofs.step.Statement.{statement}
+use Rattle.step.proofs.step.Tie as tie
+
+sub-entry : tie.Need-sub-entry
+sub-entry c = search needs
+
+mul-entry : tie.Need-mul-entry
+mul-entry c =
+    let start = c .before .before in
+    let a = start .args in
+    omega (arith, few-entries (rowsOf (a .table .now)) (a .words .now) (a .entries .now) (a .pile .now) (a .trace .now) (a .held) (start .pre .0))
+
+element-copy-out-entry : tie.Need-element-copy-out-entry
+element-copy-out-entry c =
+    let start = c .before .before in
+    let a = start .args in
+    omega (arith, few-entries (rowsOf (a .table .now)) (a .words .now) (a .entries .now) (a .pile .now) (a .trace .now) (a .held) (start .pre .0))
+
+closed-held-requires : tie.Need-closed-held-requires
+closed-held-requires c κs =
+    let start = c .before .before .before .before .before in
+    let a = start .args in
+    (start .pre .0 .pile-long, few-sets (rowsOf (a .table .now)) (a .words .now) (a .entries .now) (a .pile .now) (a .trace .now) (a .held) (start .pre .0), start .pre .1)
+
+returns : tie.Need-returns
+returns c =
+    let start = c .before .before .before .before .before .before in
+    let a = start .args in
+    arm-close (rowsOf (a .table .now)) (a .words .now) (a .entries .now) (a .pile .now) (a .trace .now) (a .held) (start .pre .0) (start .pre .1) (c .before .before .if1 .taken) (c .closed-held .result) (c .closed-held .ensures .0) (c .closed-held .ensures .1)
+
+sub-read-row : tie.Need-sub-read-row
+sub-read-row c = search needs
+
+read-row-requires : tie.Need-read-row-requires
+read-row-requires c κs =
+    let start = c .before .before .before .before in
+    let a = start .args in
+    row-within (a .table .now) _ (found-next (rowsOf (a .table .now)) (a .words .now) (a .entries .now) (a .pile .now) (a .trace .now) (a .held) (start .pre .0) (start .pre .1) _ refl (c .if1 .left) .0)
+
+sub-take-apart : tie.Need-sub-take-apart
+sub-take-apart c = search needs
+
+take-apart-requires : tie.Need-take-apart-requires
+take-apart-requires c κs =
+    let start = c .before .before .before .before .before .before in
+    let a = start .args in
+    (start .pre .0 .sound, start .pre .0 .entries-long, start .pre .0 .named, start .pre .0 .bounds .roomy, found-next (rowsOf (a .table .now)) (a .words .now) (a .entries .now) (a .pile .now) (a .trace .now) (a .held) (start .pre .0) (start .pre .1) _ refl (c .before .before .if1 .left) .1 (c .before .read-row .result) (c .before .read-row .ensures))
+
+apply-requires : tie.Need-apply-requires
+apply-requires c κs =
+    let start = c .before .before .before .before .before .before .before .before .before .before .before .before in
+    let a = start .args in
+    let apart = c .before .before .before .before .before in
+    (holds-apart (rowsOf (a .table .now)) (a .words .now) (a .entries .now) (a .pile .now) (a .trace .now) (a .held) (start .pre .0) _ (apart .take-apart .result .pending) (apart .take-apart .ensures .0), apart .take-apart .ensures .1, apart .take-apart .ensures .2)
+
+same-length : tie.Need-same-length
+same-length c = search needs
+
+returns-2 : tie.Need-returns-2
+returns-2 c =
+    let start = c .before .before .before .before .before .before .before .before .before .before .before .before .before .before .before in
+    let a = start .args in
+    let applied = c .before .before in
+    let apart = applied .before .before .before .before .before .before in
+    turned-apart (rowsOf (a .table .now)) (a .words .now) (a .entries .now) (a .pile .now) (a .trace .now) (a .held) (start .pre .0) _ (apart .take-apart .result .pending) (apart .take-apart .ensures .0) _ _ _ _ (applied .apply .result) (applied .apply .ensures)
+
+pub step-spec : {M : Type 1} → statement M
+step-spec =
+    tie.close
+    (tie.spec
+    sub-entry
+    mul-entry
+    element-copy-out-entry
+    closed-held-requires
+    returns
+    sub-read-row
+    read-row-requires
+    sub-take-apart
+    take-apart-requires
+    apply-requires
+    same-length
+    returns-2)
