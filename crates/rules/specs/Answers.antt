@@ -5,6 +5,7 @@ use mathlib.Core.Bool.{false}
 use lib.ListN.{length, drop}
 use Rattle.rules.specs.declared.Judged.{Judged}
 use Rattle.rules.specs.declared.Ended.{Ended}
+use Rattle.rules.specs.declared.Answer.{Answer}
 use Rattle.rules.specs.declared.Checked.{Checked}
 use Rattle.rules.specs.Limits.{recordWords}
 use Rattle.rules.specs.Rows.{rowsOf}
@@ -95,6 +96,20 @@ traceWordsOf (r ∷ rs) = r .channel ∷ r .value ∷ traceWordsOf rs
 -- "Words after the last record keep their old contents."
 unfoldable pub traceAfter : List Record → List ℕ → List ℕ
 traceAfter records trace = traceWordsOf records ++ drop (length (traceWordsOf records)) trace
+
+-- What a run's answer tells, in document 01's numbers and values; its records are the first words of the trace.
+pub record Told : Type 0 where
+  pub said : Said
+  pub steps : ℕ
+  pub records : ℕ
+  pub memory : List ℕ
+  pub marks : ℕ
+
+unfoldable pub toldOf : Answer → Told
+toldOf a = record { said = saidOfRun (a .ended); steps = a .steps; records = a .records; memory = a .memory .words; marks = a .marks }
+
+unfoldable pub telling : Whole → Told
+telling w = record { said = w .said; steps = w .steps; records = length (w .records); memory = w .memory; marks = w .marks }
 
 -- The level check's whole answer: what it says, "and the final marks in either case".
 pub record Advised : Type 0 where

@@ -1,0 +1,2 @@
+-- The words of this crate's private contracts.
+pub mod Going
