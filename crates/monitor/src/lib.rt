@@ -1,6 +1,14 @@
 // The run under the monitor: prepare, go on, finish.
-use rules::{Answer, Ended, Judged, Marks, Memory, VARIABLES};
-use step::{ENTRIES, Held, SETS, Turn};
+use rules::Answer;
+use rules::Ended;
+use rules::Judged;
+use rules::Marks;
+use rules::Memory;
+use rules::VARIABLES;
+use step::ENTRIES;
+use step::Held;
+use step::SETS;
+use step::Turn;
 ghost use mathlib.Core.Path.{_≡_};
 ghost use lib.ListN.{length};
 ghost use Rattle.rules.specs.Rows.{rowsOf};

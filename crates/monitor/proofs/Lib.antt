@@ -1,0 +1,2 @@
+-- The laws of going on with a run.
+pub mod GoingLaws
