@@ -1,2 +1,3 @@
 -- The laws of going on with a run.
 pub mod GoingLaws
+pub mod CallLaws

@@ -10,7 +10,11 @@ use step::Held;
 use step::SETS;
 use step::Turn;
 ghost use mathlib.Core.Path.{_≡_};
+ghost use Prim.Native.Nat.{_≤_};
 ghost use lib.ListN.{length};
+ghost use Rattle.rules.specs.declared.Ended.{Ended};
+ghost use Rattle.rules.specs.declared.Judged.{Judged};
+ghost use Rattle.rules.specs.Judging.{judge};
 ghost use Rattle.rules.specs.Rows.{rowsOf};
 ghost use Rattle.rules.specs.Answers.{answer, traceAfter, toldOf, telling};
 ghost use Rattle.step.specs.Denoted.{Holds};
@@ -75,4 +79,72 @@ fn go_on(
             }
         }
     }
+}
+
+// What a refused run answers: 0 steps and 0 records, memory and marks as given.
+fn turned_away(number: u32, row: u32, memory: Memory, marks: Marks) -> Answer
+    ensures { λ r. ⌜ r ≡ record { ended = Ended.Refused number row; steps = 0; records = 0; memory = record { words = memory .words }; marks = marks } ⌝ }
+{
+    Answer {
+        ended: Ended::Refused { number, row },
+        steps: 0,
+        records: 0,
+        memory,
+        marks,
+    }
+}
+
+// Runs the recipe of an accepted table: the arrays are prepared, the run goes on until it ends, and the answer is put together.
+fn run_accepted(
+    table: &[u32],
+    memory: Memory,
+    marks: Marks,
+    budget: u32,
+    trace: &mut [u32],
+) -> Answer
+    requires { ⌜ (judge (now table) ≡ Judged.Accepted) × (length (now trace) ≤ 16384) ⌝ }
+    ensures { λ r. ⌜ (toldOf r ≡ telling (answer (now (table .entry)) (memory .words) marks budget (length (now (trace .entry))))) × (now (trace .exit) ≡ traceAfter (answer (now (table .entry)) (memory .words) marks budget (length (now (trace .entry))) .records) (now (trace .entry))) ⌝ }
+{
+    let mut words = memory.words;
+    let mut entries = [0u32; ENTRIES];
+    let mut pile = [0u32; SETS];
+    entries[0] = (table.len() / 4) as u32;
+    let held = Held {
+        pending: 1,
+        pile: 0,
+        records: 0,
+        marks,
+    };
+    let reached = go_on(
+        table,
+        &mut words,
+        &mut entries,
+        &mut pile,
+        trace,
+        held,
+        budget,
+    );
+    let ended = reached.ended;
+    Answer {
+        ended,
+        steps: reached.steps,
+        records: reached.records as u32,
+        memory: Memory { words },
+        marks: reached.marks,
+    }
+}
+
+// Runs a recipe under the monitor, within a budget of steps and the room that the lent trace has: how it ended, with the
+// steps, records, memory and marks that it reached. A bad table or an oversized trace is refused, and then nothing has changed.
+pub fn run(table: &[u32], memory: Memory, marks: Marks, budget: u32, trace: &mut [u32]) -> Answer
+    ensures { λ r. ⌜ (toldOf r ≡ telling (answer (now (table .entry)) (memory .words) marks budget (length (now (trace .entry))))) × (now (trace .exit) ≡ traceAfter (answer (now (table .entry)) (memory .words) marks budget (length (now (trace .entry))) .records) (now (trace .entry))) ⌝ }
+{
+    let judged = table::judge(table);
+    if let Judged::Refused { number, row } = judged {
+        return turned_away(number, row, memory, marks);
+    }
+    if MOST_TRACE_WORDS < trace.len() {
+        return turned_away(6, 0, memory, marks);
+    }
+    run_accepted(table, memory, marks, budget, trace)
 }

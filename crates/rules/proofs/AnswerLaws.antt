@@ -1,20 +1,23 @@
 -- Laws of the whole answers: a call either runs or is refused, and what it answers then; each answer enum is told apart by
 -- what it says.
-use Prim.Native.Nat.{ℕ, _/_}
-use mathlib.Core.Bool.{false, cond}
-use mathlib.Core.List.{List, [], _∷_}
+use Prim.Native.Nat.{ℕ, _/_, _≤_, _<_}
+use mathlib.Core.Bool.{Bool, false, cond}
+use mathlib.Core.List.{List, [], _∷_, _++_}
 use mathlib.Core.Path.{_≡_, refl, sym, ap, _∙_}
 use lib.Dec.{eqb}
+use lib.ListN.{length, drop}
+use borrow.Author.Tests.{lt-ltb, le-ltb}
 use Rattle.rules.specs.declared.Judged.{Judged}
 use Rattle.rules.specs.declared.Ended.{Ended}
 use Rattle.rules.specs.declared.Checked.{Checked}
-use Rattle.rules.specs.Limits.{recordWords}
+use Rattle.rules.specs.declared.Answer.{Answer}
+use Rattle.rules.specs.Limits.{recordWords, mostTraceWords}
 use Rattle.rules.specs.Rows.{rowsOf}
 use Rattle.rules.specs.Trees.{recipe}
 use Rattle.rules.specs.Judging.{orElse, judge, judgeTrace}
-use Rattle.rules.specs.Running.{statement, start}
+use Rattle.rules.specs.Running.{statement, start, Record}
 use Rattle.rules.specs.LevelCheck.{walk, checkedOf}
-use Rattle.rules.specs.Answers.{Said, accepted, refused, verdict, pass, fail, saidOfJudge, saidOfRun, saidOfCheck, Whole, answered, termsOf, answer, traceWordsOf, traceAfter, advised, advice, judgement}
+use Rattle.rules.specs.Answers.{Said, accepted, refused, verdict, pass, fail, saidOfJudge, saidOfRun, saidOfCheck, Whole, answered, termsOf, answer, traceWordsOf, traceAfter, advised, advice, judgement, toldOf, telling}
 use Rattle.rules.proofs.RunLaws.{state, final}
 use Rattle.rules.proofs.JudgeLaws.{orElse-accepted}
 
@@ -44,6 +47,50 @@ call words m l b w = by (orElse (judge words) (judgeTrace w)) refl
         (ap (λ (j : Judged). answered j (termsOf w) b (start (recipe (rowsOf words)) m l)) e)
     by (Judged.Refused number row) e =
         away number row (ap (λ (j : Judged). answered j (termsOf w) b (start (recipe (rowsOf words)) m l)) e)
+
+-- ---- the three ways of a call
+
+pub answer-refused :
+    (words m : List ℕ) (l b w number row : ℕ) → judge words ≡ Judged.Refused number row → answer words m l b w ≡ turnedAway number row m l
+unfolding answer answered start orElse
+answer-refused words m l b w number row e =
+    ap (λ (j : Judged). answered (orElse j (judgeTrace w)) (termsOf w) b (start (recipe (rowsOf words)) m l)) e
+
+pub answer-oversized :
+    (words m : List ℕ) (l b w : ℕ) → judge words ≡ Judged.Accepted → mostTraceWords < w → answer words m l b w ≡ turnedAway 6 0 m l
+unfolding answer answered start orElse judgeTrace
+answer-oversized words m l b w e over =
+    ap (λ (j : Judged). answered (orElse j (judgeTrace w)) (termsOf w) b (start (recipe (rowsOf words)) m l)) e
+    ∙ ap (λ (c : Bool). answered (cond c (Judged.Refused 6 0) Judged.Accepted) (termsOf w) b (start (recipe (rowsOf words)) m l)) (lt-ltb mostTraceWords w over)
+
+pub answer-ran :
+    (words m : List ℕ) (l b w : ℕ) → judge words ≡ Judged.Accepted → w ≤ mostTraceWords
+    → answer words m l b w ≡ final (termsOf w) b (state (statement (recipe (rowsOf words)) ∷ []) m l [] [] 0)
+unfolding answer answered start orElse judgeTrace
+answer-ran words m l b w e fits =
+    ap (λ (j : Judged). answered (orElse j (judgeTrace w)) (termsOf w) b (start (recipe (rowsOf words)) m l)) e
+    ∙ ap (λ (c : Bool). answered (cond c (Judged.Refused 6 0) Judged.Accepted) (termsOf w) b (start (recipe (rowsOf words)) m l)) (le-ltb mostTraceWords w fits)
+
+-- ---- what an answer tells
+
+pub telling-law : (a : Answer) (w : Whole) → saidOfRun (a .ended) ≡ w .said → a .steps ≡ w .steps → a .records ≡ length (w .records) → a .memory .words ≡ w .memory → a .marks ≡ w .marks → toldOf a ≡ telling w
+unfolding toldOf telling
+telling-law a w es en er em el = λ i. record { said = es i; steps = en i; records = er i; memory = em i; marks = el i }
+
+-- ---- the trace afterwards
+
+pub trace-words-none : traceWordsOf [] ≡ []
+unfolding traceWordsOf
+trace-words-none = refl
+
+pub trace-words-snoc : (rs : List Record) (r : Record) → traceWordsOf (rs ++ (r ∷ [])) ≡ traceWordsOf rs ++ (r .channel ∷ r .value ∷ [])
+unfolding traceWordsOf
+trace-words-snoc [] r = refl
+trace-words-snoc (x ∷ rs) r = ap (λ (k : List ℕ). x .channel ∷ x .value ∷ k) (trace-words-snoc rs r)
+
+pub trace-after-law : (records : List Record) (trace : List ℕ) → traceAfter records trace ≡ traceWordsOf records ++ drop (length (traceWordsOf records)) trace
+unfolding traceAfter
+trace-after-law records trace = refl
 
 -- room is half the trace's words
 pub room-law : (traceWords : ℕ) → termsOf traceWords .room ≡ traceWords / recordWords

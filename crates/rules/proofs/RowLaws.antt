@@ -2,7 +2,7 @@
 use Prim.Native.Nat.{ℕ, _+_, _*_, _/_, _≤_, _<_}
 use native.Mathlib.Nat.{add-zero}
 use native.Mathlib.Omega.{arith}
-use mathlib.Core.Bool.{true, false, false≢true}
+use mathlib.Core.Bool.{true, false, false≢true, true≢false}
 use mathlib.Core.List.{List, [], _∷_, map}
 use mathlib.Core.Path.{_≡_, refl, sym, ap, _∙_, subst}
 use mathlib.Core.Logic.{inl, inr}
@@ -217,3 +217,17 @@ pub not-sequence :
 not-sequence kind among e =
     miss (0 ∷ 1 ∷ 3 ∷ 4 ∷ 5 ∷ 6 ∷ 7 ∷ 8 ∷ 9 ∷ []) 2 tt
     (subst (λ (k : Kind). OneOf (0 ∷ 1 ∷ 3 ∷ 4 ∷ 5 ∷ 6 ∷ 7 ∷ 8 ∷ 9 ∷ []) (tagOf kind-type.the-type k)) e among)
+
+-- a known kind that is no expression is a statement
+pub statement-left : (kind : Kind) → isUnknown kind ≡ false → isExpression kind ≡ false → isStatement kind ≡ true
+unfolding isUnknown isExpression isStatement
+statement-left Kind.Skip known other = refl
+statement-left Kind.Assign known other = refl
+statement-left Kind.Sequence known other = refl
+statement-left Kind.If known other = refl
+statement-left Kind.While known other = refl
+statement-left Kind.Output known other = refl
+statement-left Kind.Constant known other = absurd (true≢false other)
+statement-left Kind.Variable known other = absurd (true≢false other)
+statement-left Kind.Binary known other = absurd (true≢false other)
+statement-left Kind.Unknown known other = absurd (true≢false known)

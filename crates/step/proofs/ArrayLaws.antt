@@ -1,22 +1,24 @@
 -- The arrays as stacks and as a list of records: what a store makes of the items, the sets and the records that they hold.
-use Prim.Native.Nat.{ℕ, zero, suc, _+_, _-_, _*_, _%_, _≤_, _<_}
+use Prim.Native.Nat.{ℕ, zero, suc, _+_, _-_, _*_, _%_, _≤_, _<_, min}
 use native.Mathlib.Nat.{mod-eq-of-lt}
 use native.Mathlib.Numerals.{add-one}
 use native.Mathlib.Omega.{arith}
 use mathlib.Core.Bool.{Bool, true, false, cond, not, _||_, _&&_, true≢false}
-use mathlib.Core.List.{List, [], _∷_, _++_}
+use mathlib.Core.List.{List, [], _∷_, _++_, append-assoc}
 use mathlib.Core.Logic.{_≢_}
 use mathlib.Core.Path.{_≡_, refl, sym, ap, ap₂, _∙_, subst}
 use lib.Dec.{eqb}
-use lib.ListN.{length, getD, set, length-set, length-append}
-use lib.Seq.{getD-set-same, getD-set-other}
+use lib.ListN.{length, getD, set, take, drop, length-set, length-append, length-take, length-drop, take-append-drop}
+use lib.Seq.{getD-set-same, getD-set-other, take-suc, getD-drop, ext-getD}
 use borrow.Author.Tests.{eq-eqb, ne-eqb}
 use Rattle.rules.specs.declared.Row.{Row}
 use Rattle.rules.specs.Limits.{width}
 use Rattle.rules.specs.Marks.{put, provisional}
 use Rattle.rules.specs.Trees.{Expr, stmtAt}
 use Rattle.rules.specs.Values.{value, holds, level}
+use Rattle.rules.specs.Answers.{traceWordsOf, traceAfter}
 use Rattle.rules.proofs.AgreeLaws.{test-holds, test-fails}
+use Rattle.rules.proofs.AnswerLaws.{trace-words-none, trace-words-snoc, trace-after-law}
 use Rattle.expression.specs.declared.values.Valued.{Valued}
 use Rattle.expression.specs.Valued.{valuedOf}
 use Rattle.rules.specs.Running.{Item, statement, close, context, push}
@@ -323,3 +325,37 @@ ready-less rows e p h more fewer le ready = record {
   few = omega (arith, ready .few);
   named = ready .named;
 }
+
+pub records-none : (trace : List ℕ) → recordsOf trace 0 ≡ []
+unfolding recordsOf
+records-none trace = refl
+
+-- the words of the first n records are the first words of the trace
+pub records-words : (trace : List ℕ) (n : ℕ) → n * 2 ≤ length trace → traceWordsOf (recordsOf trace n) ≡ take (n * 2) trace
+unfolding recordsOf
+records-words trace zero h = trace-words-none
+records-words trace (suc n) h =
+    let two : suc n * 2 ≡ suc (suc (n * 2)) = omega arith in
+    let one : n * 2 + 1 ≡ suc (n * 2) = omega arith in
+    trace-words-snoc (recordsOf trace n) _
+    ∙ ap (λ (k : List ℕ). k ++ (getD trace (n * 2) 0 ∷ getD trace (n * 2 + 1) 0 ∷ [])) (records-words trace n (omega arith))
+    ∙ sym
+    (ap (λ (k : ℕ). take k trace) two ∙ take-suc trace (suc (n * 2)) 0 (omega arith)
+    ∙ ap (λ (k : List ℕ). k ++ (getD trace (suc (n * 2)) 0 ∷ [])) (take-suc trace (n * 2) 0 (omega arith))
+    ∙ append-assoc (take (n * 2) trace) (getD trace (n * 2) 0 ∷ []) (getD trace (suc (n * 2)) 0 ∷ [])
+    ∙ ap (λ (k : ℕ). take (n * 2) trace ++ (getD trace (n * 2) 0 ∷ getD trace k 0 ∷ [])) (sym one))
+
+-- a trace whose rest was kept is what the rules say it holds afterwards
+pub trace-law : (t t′ : List ℕ) (n : ℕ) → n * 2 ≤ length t′ → Kept t t′ n → t′ ≡ traceAfter (recordsOf t′ n) t
+trace-law t t′ n h kept =
+    sym
+    (trace-after-law (recordsOf t′ n) t ∙ ap (λ (k : List ℕ). k ++ drop (length k) t) (records-words t′ n h)
+    ∙ ap (λ (k : ℕ). take (n * 2) t′ ++ drop k t) (length-take (n * 2) t′ ∙ (let g : min (n * 2) (length t′) ≡ n * 2 = omega arith in g))
+    ∙ ap (λ (k : List ℕ). take (n * 2) t′ ++ k) rest
+    ∙ take-append-drop (n * 2) t′)
+  where
+    rest : drop (n * 2) t ≡ drop (n * 2) t′
+    rest =
+        ext-getD 0 (drop (n * 2) t) (drop (n * 2) t′)
+        (length-drop (n * 2) t ∙ sym (length-drop (n * 2) t′ ∙ ap (λ (k : ℕ). k - n * 2) (kept .long)))
+        (λ i g. getD-drop (n * 2) t i 0 ∙ sym (kept .rest (n * 2 + i) (omega arith)) ∙ sym (getD-drop (n * 2) t′ i 0))

@@ -1,0 +1,45 @@
+-- `monitor::run_accepted` meets its contract.
+use native.Mathlib.Omega.{arith}
+use mathlib.Core.Path.{refl}
+use lib.ListN.{replicate}
+use Rattle.rules.specs.Rows.{rowsOf}
+use Rattle.rules.proofs.JudgeLaws.{accepted-sound, accepted-count}
+use Rattle.monitor.proofs.CallLaws.{start-holds, ran-answer, ran-told}
+use borrow.Author.Needs.{needs}
+use Rattle.monitor.proofs.run_accepted.Statement.{statement}
+use Rattle.monitor.proofs.run_accepted.Tie as tie
+
+cast-entries : tie.Need-cast-entries
+cast-entries c =
+    let start = c .before .before .before in
+    let a = start .args in
+    record { fits = omega (arith, accepted-count (a .table .now) (start .pre .0), accepted-sound (a .table .now) (start .pre .0) .few) }
+
+array-write-entries : tie.Need-array-write-entries
+array-write-entries c = search needs
+
+go-on-requires : tie.Need-go-on-requires
+go-on-requires c κs =
+    let start = c .before .before .before .before .before .before .before in
+    let a = start .args in
+    start-holds (a .table .now) (a .memory .words) (a .marks) (start .pre .0) (replicate 1025 0) (replicate 8 0) (a .trace .now) refl _ refl (search needs) (start .fits .marks .fits) refl
+
+cast-t14 : tie.Need-cast-t14
+cast-t14 c = search needs
+
+same-length : tie.Need-same-length
+same-length c = search needs
+
+returns : tie.Need-returns
+returns c =
+    let start = c .before .before .before .before .before .before .before .before .before .before .before in
+    let a = start .args in
+    let went = c .before .before .before .go-on in
+    ran-told (a .table .now) (a .memory .words) (a .marks) (a .budget) (a .trace .now) _ _ (went .result)
+    (ran-answer (a .table .now) (a .memory .words) (a .marks) (start .pre .0) (replicate 1025 0) (replicate 8 0) (a .trace .now) refl _ refl (start .pre .1) (a .budget) _ _ (went .result) (went .ensures))
+    (went .ensures .kept) (went .ensures .written) _ refl refl refl refl refl
+
+pub run-accepted-spec : {M : Type 1} → statement M
+run-accepted-spec =
+    tie.close
+    (tie.spec cast-entries array-write-entries go-on-requires cast-t14 same-length returns)
