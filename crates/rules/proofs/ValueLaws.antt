@@ -13,7 +13,7 @@ use Rattle.rules.specs.declared.Operator.{Operator}
 use Rattle.rules.specs.declared.Row.{Row}
 use Rattle.rules.specs.Limits.{wordBits}
 use Rattle.rules.specs.Marks.{none, has, only, union}
-use Rattle.rules.specs.Trees.{Expr, constant, variable, binary, Stmt, operatorOf, stmtNode}
+use Rattle.rules.specs.Trees.{Expr, constant, variable, binary, Stmt, skip, operatorOf, stmtNode}
 use Rattle.rules.specs.Values.{operate, value, level, mayAssign}
 use Rattle.rules.proofs.RowLaws.{Arm, kindAt, Other}
 
@@ -135,3 +135,7 @@ pub assign-arms :
 unfolding mayAssign stmtNode none
 assign-arms test child i row =
     (record { each = refl }, record { each = refl }, record { each = refl }, record { each = refl }, record { each = refl })
+
+pub may-skip : mayAssign skip ≡ 0
+unfolding mayAssign none
+may-skip = refl
