@@ -5,6 +5,7 @@ use rules::Judged;
 use rules::Kind;
 use rules::Marks;
 use table::judge;
+use table::rows::has_row;
 use table::rows::read_row;
 ghost use mathlib.Core.Path.{_≡_};
 ghost use Prim.Native.Nat.{_<_};
@@ -46,7 +47,7 @@ pub fn assigned_at(table: &[u32], row: u32) -> Assigned
     if let Judged::Refused { number, row: at } = judged {
         return Assigned::Refused { number, row: at };
     }
-    if table.len() <= row as usize * 4 + 3 {
+    if !has_row(table, row) {
         return Assigned::Variables(0);
     }
     let variables = may_assign(table, row);

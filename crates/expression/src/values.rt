@@ -10,6 +10,7 @@ use rules::Marks;
 use rules::Memory;
 use rules::VARIABLES;
 use table::judge;
+use table::rows::has_row;
 use table::rows::read_row;
 ghost use mathlib.Core.Path.{_≡_};
 ghost use Prim.Native.Nat.{_%_, _<_};
@@ -81,7 +82,7 @@ pub fn value_at(table: &[u32], row: u32, memory: Memory, marks: Marks) -> Evalua
     if let Judged::Refused { number, row: at } = judged {
         return Evaluation::Refused { number, row: at };
     }
-    if table.len() <= row as usize * 4 + 3 {
+    if !has_row(table, row) {
         return Evaluation::Found(Valued { value: 0, level: 0 });
     }
     let words = memory.words;

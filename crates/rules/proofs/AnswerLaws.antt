@@ -1,7 +1,7 @@
 -- The laws of answers: what is said of an answer decides it.
 use Prim.Native.Nat.{ℕ}
 use mathlib.Core.List.{List}
-use mathlib.Core.Path.{_≡_, refl, ap, ap₂}
+use mathlib.Core.Path.{_≡_, refl, sym, ap, ap₂, _∙_}
 use native.Mathlib.Omega.{arith}
 use Rattle.rules.specs.declared.Judged.{Judged}
 use Rattle.rules.specs.Judging.{judge}
@@ -24,3 +24,7 @@ same-judged (Judged.Refused number row) (Judged.Refused number′ row′) e =
 pub said-judged : (words : List ℕ) {answer : Judged} → saidOfJudge answer ≡ judgement words → answer ≡ judge words
 unfolding judgement
 said-judged words {answer} e = same-judged answer (judge words) e
+
+-- what the judge's answer was found to be is the judgement
+pub judged-as : (words : List ℕ) {answer given : Judged} → saidOfJudge answer ≡ judgement words → answer ≡ given → judge words ≡ given
+judged-as words said e = sym (said-judged words said) ∙ e

@@ -22,8 +22,8 @@ fn count_child(parents: &mut [u8; MOST_ROWS], role: Role, word: u32)
 {
     match role {
         Role::Statement | Role::Expression => {
-            if word < 512 {
-                let at = word as usize;
+            let at = word as usize;
+            if at < MOST_ROWS {
                 if parents[at] == 0 {
                     parents[at] = 1;
                 } else {

@@ -6,6 +6,7 @@ use rules::Row;
 ghost use mathlib.Core.Path.{_≡_};
 ghost use Prim.Native.Nat.{_+_, _*_, _<_};
 ghost use denote.Enum.Declared.{tagOf};
+ghost use lib.Dec.{ltb};
 ghost use lib.ListN.{length};
 ghost use Rattle.rules.proofs.Kind.{the-type};
 ghost use Rattle.rules.specs.Rows.{kindOf, rolesOf, isStatement, isExpression, rowsOf, rowAt};
@@ -63,6 +64,9 @@ const ROLES: [Roles; 10] = [
         r: Role::Unnamed,
     },
 ];
+
+// "A row is four words: kind, p, q, r."
+pub const ROW_WORDS: usize = 4;
 
 // The kind that a row's first word says.
 pub fn kind_of(word: u32) -> Kind
@@ -132,7 +136,7 @@ pub fn read_row(table: &[u32], row: u32) -> Row
     requires { ⌜ row * 4 + 3 < length (now table) ⌝ }
     ensures { λ r. ⌜ r ≡ rowAt (rowsOf (now (table .entry))) row ⌝ }
 {
-    let at = row as usize * 4;
+    let at = row as usize * ROW_WORDS;
     Row {
         kind: kind_of(table[at]),
         p: table[at + 1],
@@ -141,11 +145,18 @@ pub fn read_row(table: &[u32], row: u32) -> Row
     }
 }
 
+// Whether the table has a row of that number.
+pub fn has_row(table: &[u32], row: u32) -> bool
+    ensures { λ r. ⌜ r ≡ ltb row (length (rowsOf (now (table .entry)))) ⌝ }
+{
+    (row as usize) < table.len() / ROW_WORDS
+}
+
 // The row of a number; one that the table does not have is of no known kind.
 pub fn row_at(table: &[u32], row: u32) -> Row
     ensures { λ r. ⌜ r ≡ rowAt (rowsOf (now (table .entry))) row ⌝ }
 {
-    if row as usize * 4 + 3 < table.len() {
+    if has_row(table, row) {
         return read_row(table, row);
     }
     Row {
