@@ -7,6 +7,7 @@ ghost use Rattle.rules.specs.Answers.{saidOfJudge, judgement};
 
 mod children;
 mod depths;
+mod kinds;
 mod parents;
 pub mod rows;
 mod words;

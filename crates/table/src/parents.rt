@@ -1,8 +1,8 @@
 // Refusal 4: a row before the last that is a child of no row or at more than one place, or a last row that is an expression.
 use crate::MOST_ROWS;
-use crate::rows::is_expression;
+use crate::kinds::is_expression;
+use crate::kinds::roles_of;
 use crate::rows::read_row;
-use crate::rows::roles_of;
 use rules::Judged;
 use rules::Role;
 use rules::Row;
