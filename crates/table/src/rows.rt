@@ -3,7 +3,7 @@ use crate::kinds::kind_of;
 use rules::Kind;
 use rules::Row;
 ghost use mathlib.Core.Path.{_≡_};
-ghost use Prim.Native.Nat.{_+_, _*_, _<_};
+ghost use Prim.Native.Nat.{_<_};
 ghost use lib.Dec.{ltb};
 ghost use lib.ListN.{length};
 ghost use Rattle.rules.specs.Rows.{rowsOf, rowAt};
@@ -13,7 +13,7 @@ pub const ROW_WORDS: usize = 4;
 
 // The row of a number, for callers that know that the table has it.
 pub fn read_row(table: &[u32], row: u32) -> Row
-    requires { ⌜ row * 4 + 3 < length (now table) ⌝ }
+    requires { ⌜ row < length (rowsOf (now table)) ⌝ }
     ensures { λ r. ⌜ r ≡ rowAt (rowsOf (now (table .entry))) row ⌝ }
 {
     let at = row as usize * ROW_WORDS;

@@ -10,7 +10,7 @@ use Rattle.rules.specs.Rows.{rowsOf}
 use Rattle.rules.specs.Trees.{exprAt, stmtAt, stmtNode}
 use Rattle.rules.specs.Values.{mayAssign}
 use Rattle.rules.specs.Sound.{SoundRow, Sound}
-use Rattle.rules.proofs.RowLaws.{row-within, kind-arm}
+use Rattle.rules.proofs.RowLaws.{kind-arm}
 use Rattle.rules.proofs.TreeLaws.{sound-as, stmt-of-row, assign-words, sequence-words, if-words, while-words}
 use Rattle.rules.proofs.ValueLaws.{assign-arms}
 use Prim.Native.Nat.{ℕ, _<_}
@@ -73,7 +73,7 @@ module _ (t : ℕ) (c : may-assign-lts.After-read-row (calls t) (may-assign-at t
       sym e ∙ ap mayAssign (stmt-of-row (c .before .before .pre .1 .0) (c .before .before .pre .1 .1) (c .read-row .ensures))
 
 may-assign-read-row-requires : (t : ℕ) → may-assign-lts.Need-read-row-requires (calls t) (may-assign-at t) may-assign.Post
-may-assign-read-row-requires t c κs = row-within (c .before .args .table .now) (c .before .args .row) (c .before .pre .1 .1)
+may-assign-read-row-requires t c κs = c .before .pre .1 .1
 
 may-assign-enum-told : (t : ℕ) → may-assign-lts.Need-enum-told (calls t) (may-assign-at t) may-assign.Post
 may-assign-enum-told t c = search needs

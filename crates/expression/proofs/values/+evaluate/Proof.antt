@@ -9,7 +9,7 @@ use Rattle.rules.specs.Limits.{width}
 use Rattle.rules.specs.Rows.{rowsOf}
 use Rattle.rules.specs.Trees.{Expr, variable, exprAt, exprNode}
 use Rattle.rules.specs.Sound.{SoundRow, Sound}
-use Rattle.rules.proofs.RowLaws.{row-within, kind-arm}
+use Rattle.rules.proofs.RowLaws.{kind-arm}
 use Rattle.rules.proofs.TreeLaws.{sound-as, expr-of-row, expr-arms, variable-words, binary-words}
 use Rattle.expression.specs.declared.values.Valued.{Valued}
 use Rattle.expression.specs.Valued.{valuedOf}
@@ -83,7 +83,7 @@ module _ (t : ℕ) (c : evaluate-lts.After-read-row (calls t) (evaluate-at t) ev
       (sym e ∙ expr-of-row (start .pre .1 .0) (start .pre .1 .1) (c .read-row .ensures))
 
 evaluate-read-row-requires : (t : ℕ) → evaluate-lts.Need-read-row-requires (calls t) (evaluate-at t) evaluate.Post
-evaluate-read-row-requires t c κs = row-within (c .before .args .table .now) (c .before .args .row) (c .before .pre .1 .1)
+evaluate-read-row-requires t c κs = c .before .pre .1 .1
 
 evaluate-enum-told : (t : ℕ) → evaluate-lts.Need-enum-told (calls t) (evaluate-at t) evaluate.Post
 evaluate-enum-told t c = search needs

@@ -8,7 +8,6 @@ use Rattle.rules.specs.Rows.{rowsOf}
 use Rattle.rules.specs.Judging.{tooDeep, lowest}
 use Rattle.rules.specs.OnePass.{depthAt, overLimits}
 use Rattle.rules.proofs.JudgeLaws.{lowest-step, lowest-found, lowest-end, fitting-rows}
-use Rattle.rules.proofs.RowLaws.{row-within}
 use Rattle.rules.proofs.RefusalLaws.{within-limits, too-deep-law}
 use Rattle.table.specs.Refused.{refusedDepths}
 use Rattle.table.proofs.DepthLaws.{Kept, kept-none, kept-more, kept-depth}
@@ -29,9 +28,7 @@ loop-holds c =
     (omega arith, ap (lowest 5 _ 0) e, kept-none (rowsOf (start .args .table .now)))
 
 read-row-requires : tie.Need-read-row-requires Inv-loop μ-loop
-read-row-requires c κs =
-    let start = c .before .before .before in
-    row-within (start .args .table .now) (c .before .loop .i) (omega (arith, start .pre .0 .1))
+read-row-requires c κs = omega (arith, c .before .before .before .pre .0 .1)
 
 place-requires : tie.Need-place-requires Inv-loop μ-loop
 place-requires c κs = tt

@@ -2,7 +2,7 @@
 use mathlib.Core.Path.{sym, _∙_}
 use borrow.Author.Tests.{ltb-true, ltb-false}
 use Rattle.rules.specs.Rows.{rowsOf}
-use Rattle.rules.proofs.RowLaws.{row-within, row-none}
+use Rattle.rules.proofs.RowLaws.{row-none}
 use borrow.Author.Needs.{needs}
 use Rattle.table.proofs.rows.row_at.Statement.{statement}
 use Rattle.table.proofs.rows.row_at.Tie as tie
@@ -11,10 +11,7 @@ has-row-requires : tie.Need-has-row-requires
 has-row-requires c κs = search needs
 
 read-row-requires : tie.Need-read-row-requires
-read-row-requires c κs =
-    let asked = c .before in
-    let a = asked .before .before .args in
-    row-within (a .table .now) (a .row) (ltb-true _ _ (sym (asked .has-row .ensures) ∙ c .if1 .taken))
+read-row-requires c κs = ltb-true _ _ (sym (c .before .has-row .ensures) ∙ c .if1 .taken)
 
 returns : tie.Need-returns
 returns c = search needs
