@@ -4,7 +4,7 @@ use native.Mathlib.Nat.{lt-of-le-of-lt, le-of-lt, mul-le-mul-left, mul-lt-mul-of
 use native.Mathlib.Omega.{arith}
 use mathlib.Core.Bool.{Bool, true, false, cond}
 use mathlib.Core.List.{List, [], _∷_}
-use mathlib.Core.Path.{_≡_, refl, sym, ap, _∙_}
+use mathlib.Core.Path.{_≡_, refl, ap}
 use lib.ListN.{getD}
 use lib.Pow.{pow-pos}
 use borrow.Author.Tests.{eq-eqb, ne-eqb, lt-ltb, le-ltb}

@@ -1,7 +1,7 @@
 -- `table::parents::count_parents` meets its contract: what is counted is the children of the rows passed.
 use Prim.Native.Nat.{_-_, _≤_}
 use native.Mathlib.Omega.{arith}
-use mathlib.Core.Path.{_≡_, sym, subst, ap, _∙_}
+use mathlib.Core.Path.{_≡_, sym, subst, ap}
 use lib.ListN.{length, take}
 use Rattle.rules.specs.Limits.{mostRows}
 use Rattle.rules.specs.Rows.{rowsOf}
