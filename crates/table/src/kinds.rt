@@ -9,51 +9,61 @@ ghost use Rattle.rules.specs.Rows.{kindOf, rolesOf, isStatement, isExpression};
 
 // "Which word is a variable, a row or a constant is fixed for each kind": by the kind's place in `Kind`.
 const ROLES: [Roles; 10] = [
+    // skip
     Roles {
         p: Role::Unnamed,
         q: Role::Unnamed,
         r: Role::Unnamed,
     },
+    // assign: variable, expression row
     Roles {
         p: Role::Variable,
         q: Role::Expression,
         r: Role::Unnamed,
     },
+    // sequence: first statement, second statement
     Roles {
         p: Role::Statement,
         q: Role::Statement,
         r: Role::Unnamed,
     },
+    // if: expression, then, else
     Roles {
         p: Role::Expression,
         q: Role::Statement,
         r: Role::Statement,
     },
+    // while: expression, body
     Roles {
         p: Role::Expression,
         q: Role::Statement,
         r: Role::Unnamed,
     },
+    // output: channel, expression
     Roles {
         p: Role::Channel,
         q: Role::Expression,
         r: Role::Unnamed,
     },
+    // constant: value
     Roles {
         p: Role::Value,
         q: Role::Unnamed,
         r: Role::Unnamed,
     },
+    // variable: variable
     Roles {
         p: Role::Variable,
         q: Role::Unnamed,
         r: Role::Unnamed,
     },
+    // binary: operator, left, right
     Roles {
         p: Role::Operator,
         q: Role::Expression,
         r: Role::Expression,
     },
+    // unknown
     Roles {
         p: Role::Unnamed,
         q: Role::Unnamed,
