@@ -1,9 +1,21 @@
--- An expression's value and level, in one answer.
+-- An expression's value and level in one answer, and what the public call answers.
 use Prim.Native.Nat.{ℕ}
 use mathlib.Core.List.{List}
-use Rattle.rules.specs.Trees.{Expr}
+use Rattle.rules.specs.declared.Judged.{Judged}
+use Rattle.rules.specs.Rows.{rowsOf}
+use Rattle.rules.specs.Trees.{Expr, exprAt}
 use Rattle.rules.specs.Values.{value, level}
+use Rattle.rules.specs.Judging.{judge}
 use Rattle.expression.specs.declared.values.Valued.{Valued}
+use Rattle.expression.specs.declared.values.Evaluation.{Evaluation}
 
 abbrev pub valuedOf : List ℕ → ℕ → Expr → Valued
 valuedOf memory marks e = record { value = value memory e; level = level marks e }
+
+abbrev pub foundOr : Judged → Valued → Evaluation
+foundOr Judged.Accepted found = Evaluation.Found found
+foundOr (Judged.Refused number row) found = Evaluation.Refused number row
+
+-- a refused table gives its refusal; of any other, the expression at the row
+abbrev pub evaluationOf : List ℕ → ℕ → List ℕ → ℕ → Evaluation
+evaluationOf words row memory marks = foundOr (judge words) (valuedOf memory marks (exprAt (rowsOf words) row))

@@ -4,6 +4,8 @@ use crate::marks::only_mark;
 use rules::Judged;
 use rules::Kind;
 use rules::Marks;
+use table::judge;
+use table::rows::has_row;
 use table::rows::read_row;
 ghost use mathlib.Core.Path.{_≡_};
 ghost use Prim.Native.Nat.{_<_};
@@ -12,6 +14,13 @@ ghost use Rattle.rules.specs.Rows.{rowsOf};
 ghost use Rattle.rules.specs.Trees.{stmtAt};
 ghost use Rattle.rules.specs.Values.{mayAssign};
 ghost use Rattle.rules.specs.Sound.{Sound};
+ghost use Rattle.expression.specs.Assigned.{assignedOf};
+
+// What the public call answers: the variables, or the judge's refusal of the table.
+pub enum Assigned {
+    Variables(Marks),
+    Refused { number: u32, row: u32 },
+}
 
 // The variables that the statement at a row may assign, for callers that hold a judged table.
 pub fn may_assign(table: &[u32], row: u32) -> Marks
@@ -27,4 +36,20 @@ pub fn may_assign(table: &[u32], row: u32) -> Marks
         Kind::While => may_assign(table, here.q),
         _ => 0,
     }
+}
+
+// The variables that the statement at a row of any table may assign: the table is judged first. A row that the table does
+// not have is read as skip.
+pub fn assigned_at(table: &[u32], row: u32) -> Assigned
+    ensures { λ r. ⌜ r ≡ assignedOf (now (table .entry)) row ⌝ }
+{
+    let judged = judge(table);
+    if let Judged::Refused { number, row: at } = judged {
+        return Assigned::Refused { number, row: at };
+    }
+    if !has_row(table, row) {
+        return Assigned::Variables(0);
+    }
+    let variables = may_assign(table, row);
+    Assigned::Variables(variables)
 }

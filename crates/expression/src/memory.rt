@@ -28,8 +28,8 @@ pub fn read_lent(words: &[u32; VARIABLES], variable: u32) -> u32
     requires { ⌜ length (now words) ≡ width ⌝ }
     ensures { λ r. ⌜ r ≡ getD (now (words .entry)) (variable % width) 0 ⌝ }
 {
-    let at = variable as usize % VARIABLES;
-    words[at]
+    let from = variable as usize % VARIABLES;
+    words[from]
 }
 
 // Gives the variable the value, where the memory is lent.
@@ -37,6 +37,6 @@ pub fn store_lent(words: &mut [u32; VARIABLES], variable: u32, value: u32)
     requires { ⌜ length (now words) ≡ width ⌝ }
     ensures { λ _. ⌜ now (words .exit) ≡ set (now (words .entry)) (variable % width) value ⌝ }
 {
-    let at = variable as usize % VARIABLES;
-    words[at] = value;
+    let to = variable as usize % VARIABLES;
+    words[to] = value;
 }

@@ -7,12 +7,17 @@ ghost use Rattle.rules.specs.declared.Operator.{Operator};
 ghost use Rattle.rules.specs.Trees.{operatorOf};
 ghost use Rattle.rules.specs.Values.{operate};
 
+// "all modulo 2^32"
+const MODULUS: u64 = 4294967296;
+
+// The product modulo 2^32: the whole product fits 64 bits.
 fn product(a: u32, b: u32) -> u32
     ensures { λ r. ⌜ r ≡ operate Operator.Product a b ⌝ }
 {
-    (a as u64 * b as u64 % 4294967296) as u32
+    (a as u64 * b as u64 % MODULUS) as u32
 }
 
+// The whole quotient, with 0 where the divisor is 0.
 fn quotient(a: u32, b: u32) -> u32
     ensures { λ r. ⌜ r ≡ operate Operator.Quotient a b ⌝ }
 {
@@ -22,6 +27,7 @@ fn quotient(a: u32, b: u32) -> u32
     a / b
 }
 
+// 1 where the two are equal, else 0.
 fn equal(a: u32, b: u32) -> u32
     ensures { λ r. ⌜ r ≡ operate Operator.Equal a b ⌝ }
 {
@@ -31,6 +37,7 @@ fn equal(a: u32, b: u32) -> u32
     0
 }
 
+// 1 where the first is less, else 0.
 fn less(a: u32, b: u32) -> u32
     ensures { λ r. ⌜ r ≡ operate Operator.Less a b ⌝ }
 {

@@ -9,6 +9,8 @@ use rules::Kind;
 use rules::Marks;
 use rules::Memory;
 use rules::VARIABLES;
+use table::judge;
+use table::rows::has_row;
 use table::rows::read_row;
 ghost use mathlib.Core.Path.{_≡_};
 ghost use Prim.Native.Nat.{_%_, _<_};
@@ -17,12 +19,18 @@ ghost use Rattle.rules.specs.Limits.{width};
 ghost use Rattle.rules.specs.Rows.{rowsOf};
 ghost use Rattle.rules.specs.Trees.{variable, exprAt};
 ghost use Rattle.rules.specs.Sound.{Sound};
-ghost use Rattle.expression.specs.Valued.{valuedOf};
+ghost use Rattle.expression.specs.Valued.{valuedOf, evaluationOf};
 
 // An expression's value, and its level: the marked variables that are read in it.
 pub struct Valued {
     pub value: u32,
     pub level: Marks,
+}
+
+// What the public call answers: the value and level, or the judge's refusal of the table.
+pub enum Evaluation {
+    Found(Valued),
+    Refused { number: u32, row: u32 },
 }
 
 // The variable's value, and its level: itself where it is marked.
@@ -63,4 +71,21 @@ pub fn evaluate(table: &[u32], row: u32, words: &[u32; VARIABLES], marks: Marks)
         }
         _ => Valued { value: 0, level: 0 },
     }
+}
+
+// The value and level of the expression at a row of any table: the table is judged first. A row that the table does not
+// have is read as the constant 0.
+pub fn value_at(table: &[u32], row: u32, memory: Memory, marks: Marks) -> Evaluation
+    ensures { λ r. ⌜ r ≡ evaluationOf (now (table .entry)) row (memory .words) marks ⌝ }
+{
+    let judged = judge(table);
+    if let Judged::Refused { number, row: at } = judged {
+        return Evaluation::Refused { number, row: at };
+    }
+    if !has_row(table, row) {
+        return Evaluation::Found(Valued { value: 0, level: 0 });
+    }
+    let words = memory.words;
+    let found = evaluate(table, row, &words, marks);
+    Evaluation::Found(found)
 }

@@ -19,7 +19,8 @@ use Rattle.rules.specs.Running.{statement, start, Record}
 use Rattle.rules.specs.LevelCheck.{walk, checkedOf}
 use Rattle.rules.specs.Answers.{Said, accepted, refused, verdict, pass, fail, saidOfJudge, saidOfRun, saidOfCheck, Whole, answered, termsOf, answer, traceWordsOf, traceAfter, advised, advice, judgement, toldOf, telling}
 use Rattle.rules.proofs.RunLaws.{state, final}
-use Rattle.rules.proofs.JudgeLaws.{orElse-accepted}
+use Rattle.rules.specs.Sound.{Sound}
+use Rattle.rules.proofs.JudgeLaws.{orElse-accepted, accepted-sound}
 
 -- the state from which a recipe starts
 pub start-law : (words : List ℕ) (m : List ℕ) (l : ℕ) → start (recipe (rowsOf words)) m l ≡ state (statement (recipe (rowsOf words)) ∷ []) m l [] [] 0
@@ -180,3 +181,11 @@ judged-said words e = ap saidOfJudge e
 pub said-judged : (words : List ℕ) {answer : Judged} → saidOfJudge answer ≡ judgement words → answer ≡ judge words
 unfolding judgement
 said-judged words {answer} e = judged-unique answer (judge words) e
+
+-- what the judge's answer was found to be is the judgement
+pub judged-as : (words : List ℕ) {answer given : Judged} → saidOfJudge answer ≡ judgement words → answer ≡ given → judge words ≡ given
+judged-as words said e = sym (said-judged words said) ∙ e
+
+-- from an answer "accepted" follows all that the crates above use of a table
+pub accepted-answer : (words : List ℕ) {answer : Judged} → saidOfJudge answer ≡ judgement words → answer ≡ Judged.Accepted → Sound (rowsOf words)
+accepted-answer words said e = accepted-sound words (judged-as words said e)

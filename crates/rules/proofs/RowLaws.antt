@@ -181,13 +181,9 @@ row-read words i kind h same =
     row : Kind → Row
     row k = record { kind = k; p = getD words (i * 4 + 1) 0; q = getD words (i * 4 + 2) 0; r = getD words (i * 4 + 3) 0 }
 
-pub row-none :
-    (words : List ℕ) (i : ℕ) → length words ≤ i * 4 + 3
-    → record { kind = Kind.Unknown; p = 0; q = 0; r = 0 } ≡ rowAt (rowsOf words) i
+pub row-none : (rows : List Row) (i : ℕ) → length rows ≤ i → record { kind = Kind.Unknown; p = 0; q = 0; r = 0 } ≡ rowAt rows i
 unfolding absent
-row-none words i h =
-    let n : length (rowsOf words) ≡ length words / 4 = rows-length words in
-    sym (row-absent (rowsOf words) i (omega arith))
+row-none rows i h = sym (row-absent rows i h)
 
 -- a row that the table has is read within its words
 pub row-within : (words : List ℕ) (i : ℕ) → i < length (rowsOf words) → i * 4 + 3 < length words

@@ -1,14 +1,14 @@
 -- A statement row of a judged table that was read, kind by kind: what it stands for, and what its children are.
-use Prim.Native.Nat.{ℕ, _≤_, _<_}
+use Prim.Native.Nat.{ℕ, _<_}
 use mathlib.Core.Bool.{true}
 use mathlib.Core.List.{List}
-use mathlib.Core.Path.{_≡_, refl, sym, ap, _∙_, subst}
+use mathlib.Core.Path.{_≡_, sym, ap, _∙_, subst}
 use lib.ListN.{length}
 use Rattle.rules.specs.declared.Kind.{Kind}
 use Rattle.rules.specs.declared.Row.{Row}
 use Rattle.rules.specs.Limits.{width}
 use Rattle.rules.specs.Rows.{rolesOf, isStatement, rowAt}
-use Rattle.rules.specs.Trees.{Stmt, skip, assign, sequence, if, while, output, stmtNode, exprAt, stmtAt}
+use Rattle.rules.specs.Trees.{skip, assign, sequence, if, while, output, stmtNode, exprAt, stmtAt}
 use Rattle.rules.specs.Sound.{SoundRow, Sound}
 use Rattle.rules.proofs.TreeLaws.{stmt-law}
 

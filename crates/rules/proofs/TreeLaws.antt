@@ -8,10 +8,11 @@ use Rattle.rules.specs.declared.Depth.{Depth}
 use Rattle.rules.specs.declared.Kind.{Kind}
 use Rattle.rules.specs.declared.Row.{Row}
 use Rattle.rules.specs.Limits.{width, highestChannel}
-use Rattle.rules.specs.Rows.{rolesOf, rowAt}
+use Rattle.rules.specs.Rows.{rolesOf, absent, rowAt}
 use Rattle.rules.specs.Trees.{Expr, constant, variable, binary, Stmt, skip, assign, sequence, if, while, output, operatorOf, exprNode, stmtNode, exprIn, exprAt, stmtIn, stmtAt, recipe, height, nesting, loopNesting}
 use Rattle.rules.specs.Sound.{SoundRow, Fitting, Sound}
 use Rattle.rules.specs.OnePass.{depthAt, depthBy}
+use Rattle.rules.proofs.JudgeLaws.{row-absent}
 use Rattle.rules.proofs.RowLaws.{Arm, kindAt}
 
 -- two readings of the children that agree below row i make one tree of row i
@@ -205,3 +206,26 @@ module _ (rows : List Row) (sound : Sound rows) (P : ℕ → Stmt → Type 0) (e
 pub recipe-law : (rows : List Row) → recipe rows ≡ stmtAt rows (length rows - 1)
 unfolding recipe
 recipe-law rows = refl
+
+-- a row that was read: what its words are once its kind is known, and what it stands for
+module _ {rows : List Row} {i : ℕ} {row : Row} (sound : Sound rows) (within : i < length rows) (read : row ≡ rowAt rows i) where
+  pub sound-as : {kind : Kind} → row .kind ≡ kind → SoundRow rows i kind row
+  sound-as e =
+      subst (λ (k : Kind). SoundRow rows i k row) e
+      (subst (λ (r : Row). SoundRow rows i (r .kind) r) (sym read) (sound .row i within))
+
+  pub expr-of-row : exprNode (exprAt rows) row (row .kind) ≡ exprAt rows i
+  expr-of-row = ap (λ (r : Row). exprNode (exprAt rows) r (r .kind)) read ∙ sym (expr-law rows sound i within)
+
+  pub stmt-of-row : stmtNode (exprAt rows) (stmtAt rows) i row (row .kind) ≡ stmtAt rows i
+  stmt-of-row =
+      ap (λ (r : Row). stmtNode (exprAt rows) (stmtAt rows) i r (r .kind)) read ∙ sym (stmt-law rows sound i within)
+
+-- a row that the table does not have stands for the constant 0, and for skip
+pub expr-absent : (rows : List Row) (i : ℕ) → length rows ≤ i → exprAt rows i ≡ constant 0
+unfolding exprAt exprIn exprNode absent
+expr-absent rows i h = ap (λ (r : Row). exprNode (exprIn i rows) r (r .kind)) (row-absent rows i h)
+
+pub stmt-absent : (rows : List Row) (i : ℕ) → length rows ≤ i → stmtAt rows i ≡ skip
+unfolding stmtAt stmtIn stmtNode absent
+stmt-absent rows i h = ap (λ (r : Row). stmtNode (exprAt rows) (stmtIn i rows) i r (r .kind)) (row-absent rows i h)

@@ -4,7 +4,7 @@ use native.Mathlib.Nat.{lt-of-le-of-lt, le-of-lt, mul-le-mul-left, mul-lt-mul-of
 use native.Mathlib.Omega.{arith}
 use mathlib.Core.Bool.{Bool, true, false, cond}
 use mathlib.Core.List.{List, [], _∷_}
-use mathlib.Core.Path.{_≡_, refl, sym, ap, _∙_}
+use mathlib.Core.Path.{_≡_, refl, ap}
 use lib.ListN.{getD}
 use lib.Pow.{pow-pos}
 use borrow.Author.Tests.{eq-eqb, ne-eqb, lt-ltb, le-ltb}
@@ -13,7 +13,7 @@ use Rattle.rules.specs.declared.Operator.{Operator}
 use Rattle.rules.specs.declared.Row.{Row}
 use Rattle.rules.specs.Limits.{wordBits}
 use Rattle.rules.specs.Marks.{none, has, only, union}
-use Rattle.rules.specs.Trees.{Expr, constant, variable, binary, Stmt, operatorOf, stmtNode}
+use Rattle.rules.specs.Trees.{Expr, constant, variable, binary, Stmt, skip, operatorOf, stmtNode}
 use Rattle.rules.specs.Values.{operate, value, level, mayAssign}
 use Rattle.rules.proofs.RowLaws.{Arm, kindAt, Other}
 
@@ -135,3 +135,7 @@ pub assign-arms :
 unfolding stmtNode none
 assign-arms test child i row =
     (record { each = refl }, record { each = refl }, record { each = refl }, record { each = refl }, record { each = refl })
+
+pub may-skip : mayAssign skip ≡ 0
+unfolding none
+may-skip = refl

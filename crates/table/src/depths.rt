@@ -8,6 +8,7 @@ ghost use mathlib.Core.Path.{_≡_};
 ghost use Prim.Native.Nat.{_%_, _≤_, max};
 ghost use lib.ListN.{length};
 ghost use Rattle.rules.specs.declared.Judged.{Judged};
+ghost use Rattle.rules.specs.Limits.{mostRows};
 ghost use Rattle.rules.specs.Rows.{rowsOf};
 ghost use Rattle.rules.specs.OnePass.{WithinLimits, depthBy, overLimits};
 ghost use Rattle.table.specs.Refused.{refusedWords, refusedChildren, refusedDepths};
@@ -19,6 +20,7 @@ const MOST_NESTING: u8 = 8;
 
 const MOST_LOOP_NESTING: u8 = 3;
 
+// The larger of two numbers.
 fn larger(a: u8, b: u8) -> u8
     ensures { λ r. ⌜ r ≡ max a b ⌝ }
 {
@@ -77,14 +79,14 @@ fn over_limits(depth: Depth) -> bool
 
 // Where a row's depth is kept. A word that names no row is read as one that does, and its depth is not used.
 fn place(word: u32) -> usize
-    ensures { λ r. ⌜ r ≡ word % 512 ⌝ }
+    ensures { λ r. ⌜ r ≡ word % mostRows ⌝ }
 {
     word as usize % MOST_ROWS
 }
 
 // Refusal 5 at the lowest row to which it applies, of rows to which neither 2 nor 3 applies.
 pub fn judge_depths(table: &[u32], rows: u32) -> Judged
-    requires { ⌜ (rows ≤ 512) × (rows ≡ length (rowsOf (now table))) ⌝ }
+    requires { ⌜ (rows ≤ mostRows) × (rows ≡ length (rowsOf (now table))) ⌝ }
     requires { ⌜ (refusedWords (rowsOf (now table)) ≡ Judged.Accepted) × (refusedChildren (rowsOf (now table)) ≡ Judged.Accepted) ⌝ }
     ensures { λ r. ⌜ r ≡ refusedDepths (rowsOf (now (table .entry))) ⌝ }
 {

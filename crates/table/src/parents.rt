@@ -1,14 +1,15 @@
 // Refusal 4: a row before the last that is a child of no row or at more than one place, or a last row that is an expression.
 use crate::MOST_ROWS;
-use crate::rows::is_expression;
+use crate::kinds::is_expression;
+use crate::kinds::roles_of;
 use crate::rows::read_row;
-use crate::rows::roles_of;
 use rules::Judged;
 use rules::Role;
 use rules::Row;
 ghost use mathlib.Core.Path.{_≡_};
 ghost use Prim.Native.Nat.{_<_, _≤_};
 ghost use lib.ListN.{length};
+ghost use Rattle.rules.specs.Limits.{mostRows};
 ghost use Rattle.rules.specs.Rows.{rowsOf};
 ghost use Rattle.rules.specs.Judging.{childOf, children, places, wrongParents};
 ghost use Rattle.rules.specs.OnePass.{childrenOf};
@@ -17,13 +18,13 @@ ghost use Rattle.table.specs.Parents.{SameCount, Counted};
 
 // Counts a place at which the word stands, where its role makes it a child; two stands for any more.
 fn count_child(parents: &mut [u8; MOST_ROWS], role: Role, word: u32)
-    requires { ⌜ length (now parents) ≡ 512 ⌝ }
+    requires { ⌜ length (now parents) ≡ mostRows ⌝ }
     ensures { λ _. ⌜ Counted (now (parents .entry)) (now (parents .exit)) (childOf role word) ⌝ }
 {
     match role {
         Role::Statement | Role::Expression => {
-            if word < 512 {
-                let at = word as usize;
+            let at = word as usize;
+            if at < MOST_ROWS {
                 if parents[at] == 0 {
                     parents[at] = 1;
                 } else {
@@ -37,7 +38,7 @@ fn count_child(parents: &mut [u8; MOST_ROWS], role: Role, word: u32)
 
 // Counts the children of a row.
 fn count_children(parents: &mut [u8; MOST_ROWS], row: Row)
-    requires { ⌜ length (now parents) ≡ 512 ⌝ }
+    requires { ⌜ length (now parents) ≡ mostRows ⌝ }
     ensures { λ _. ⌜ Counted (now (parents .entry)) (now (parents .exit)) (childrenOf row) ⌝ }
 {
     let kind = row.kind;
@@ -65,7 +66,7 @@ fn wrong_parents(table: &[u32], rows: u32, i: u32, count: u8) -> bool
 
 // Refusal 4 at the lowest row to which it applies.
 pub fn judge_parents(table: &[u32], rows: u32) -> Judged
-    requires { ⌜ (rows ≤ 512) × (rows ≡ length (rowsOf (now table))) ⌝ }
+    requires { ⌜ (rows ≤ mostRows) × (rows ≡ length (rowsOf (now table))) ⌝ }
     ensures { λ r. ⌜ r ≡ refusedParents (rowsOf (now (table .entry))) ⌝ }
 {
     let mut parents = [0u8; MOST_ROWS];
@@ -83,7 +84,7 @@ pub fn judge_parents(table: &[u32], rows: u32) -> Judged
 
 // Counts the children of every row.
 fn count_parents(table: &[u32], rows: u32, parents: &mut [u8; MOST_ROWS])
-    requires { ⌜ (rows ≡ length (rowsOf (now table))) × (length (now parents) ≡ 512) ⌝ }
+    requires { ⌜ (rows ≡ length (rowsOf (now table))) × (length (now parents) ≡ mostRows) ⌝ }
     ensures { λ _. ⌜ Counted (now (parents .entry)) (now (parents .exit)) (children (rowsOf (now (table .entry)))) ⌝ }
 {
     let mut i: u32 = 0;

@@ -1,138 +1,22 @@
-// The rows of a table of words: kinds, what each of the three words is, and the row reader.
+// The rows of a table of words.
+use crate::kinds::kind_of;
 use rules::Kind;
-use rules::Role;
-use rules::Roles;
 use rules::Row;
 ghost use mathlib.Core.Path.{_≡_};
-ghost use Prim.Native.Nat.{_+_, _*_, _<_};
-ghost use denote.Enum.Declared.{tagOf};
+ghost use Prim.Native.Nat.{_<_};
+ghost use lib.Dec.{ltb};
 ghost use lib.ListN.{length};
-ghost use Rattle.rules.proofs.Kind.{the-type};
-ghost use Rattle.rules.specs.Rows.{kindOf, rolesOf, isStatement, isExpression, rowsOf, rowAt};
+ghost use Rattle.rules.specs.Rows.{rowsOf, rowAt};
 
-// "Which word is a variable, a row or a constant is fixed for each kind": by the kind's place in `Kind`.
-const ROLES: [Roles; 10] = [
-    Roles {
-        p: Role::Unnamed,
-        q: Role::Unnamed,
-        r: Role::Unnamed,
-    },
-    Roles {
-        p: Role::Variable,
-        q: Role::Expression,
-        r: Role::Unnamed,
-    },
-    Roles {
-        p: Role::Statement,
-        q: Role::Statement,
-        r: Role::Unnamed,
-    },
-    Roles {
-        p: Role::Expression,
-        q: Role::Statement,
-        r: Role::Statement,
-    },
-    Roles {
-        p: Role::Expression,
-        q: Role::Statement,
-        r: Role::Unnamed,
-    },
-    Roles {
-        p: Role::Channel,
-        q: Role::Expression,
-        r: Role::Unnamed,
-    },
-    Roles {
-        p: Role::Value,
-        q: Role::Unnamed,
-        r: Role::Unnamed,
-    },
-    Roles {
-        p: Role::Variable,
-        q: Role::Unnamed,
-        r: Role::Unnamed,
-    },
-    Roles {
-        p: Role::Operator,
-        q: Role::Expression,
-        r: Role::Expression,
-    },
-    Roles {
-        p: Role::Unnamed,
-        q: Role::Unnamed,
-        r: Role::Unnamed,
-    },
-];
-
-// The kind that a row's first word says.
-pub fn kind_of(word: u32) -> Kind
-    ensures { λ r. ⌜ r ≡ kindOf word ⌝ }
-{
-    match word {
-        0 => Kind::Skip,
-        1 => Kind::Assign,
-        2 => Kind::Sequence,
-        3 => Kind::If,
-        4 => Kind::While,
-        5 => Kind::Output,
-        8 => Kind::Constant,
-        9 => Kind::Variable,
-        10 => Kind::Binary,
-        _ => Kind::Unknown,
-    }
-}
-
-// The kind's place in `Kind`, by which the table of roles is read.
-fn place_of(kind: Kind) -> usize
-    ensures { λ r. ⌜ r ≡ tagOf the-type kind ⌝ }
-{
-    match kind {
-        Kind::Skip => 0,
-        Kind::Assign => 1,
-        Kind::Sequence => 2,
-        Kind::If => 3,
-        Kind::While => 4,
-        Kind::Output => 5,
-        Kind::Constant => 6,
-        Kind::Variable => 7,
-        Kind::Binary => 8,
-        Kind::Unknown => 9,
-    }
-}
-
-// What each of the three words is in a row of the kind.
-pub fn roles_of(kind: Kind) -> Roles
-    ensures { λ r. ⌜ r ≡ rolesOf kind ⌝ }
-{
-    ROLES[place_of(kind)]
-}
-
-// Whether a row of the kind is a statement.
-pub fn is_statement(kind: Kind) -> bool
-    ensures { λ r. ⌜ r ≡ isStatement kind ⌝ }
-{
-    match kind {
-        Kind::Skip | Kind::Assign | Kind::Sequence | Kind::If | Kind::While | Kind::Output => true,
-        _ => false,
-    }
-}
-
-// Whether a row of the kind is an expression.
-pub fn is_expression(kind: Kind) -> bool
-    ensures { λ r. ⌜ r ≡ isExpression kind ⌝ }
-{
-    match kind {
-        Kind::Constant | Kind::Variable | Kind::Binary => true,
-        _ => false,
-    }
-}
+// "A row is four words: kind, p, q, r."
+pub const ROW_WORDS: usize = 4;
 
 // The row of a number, for callers that know that the table has it.
 pub fn read_row(table: &[u32], row: u32) -> Row
-    requires { ⌜ row * 4 + 3 < length (now table) ⌝ }
+    requires { ⌜ row < length (rowsOf (now table)) ⌝ }
     ensures { λ r. ⌜ r ≡ rowAt (rowsOf (now (table .entry))) row ⌝ }
 {
-    let at = row as usize * 4;
+    let at = row as usize * ROW_WORDS;
     Row {
         kind: kind_of(table[at]),
         p: table[at + 1],
@@ -141,11 +25,18 @@ pub fn read_row(table: &[u32], row: u32) -> Row
     }
 }
 
+// Whether the table has a row of that number.
+pub fn has_row(table: &[u32], row: u32) -> bool
+    ensures { λ r. ⌜ r ≡ ltb row (length (rowsOf (now (table .entry)))) ⌝ }
+{
+    (row as usize) < table.len() / ROW_WORDS
+}
+
 // The row of a number; one that the table does not have is of no known kind.
 pub fn row_at(table: &[u32], row: u32) -> Row
     ensures { λ r. ⌜ r ≡ rowAt (rowsOf (now (table .entry))) row ⌝ }
 {
-    if row as usize * 4 + 3 < table.len() {
+    if has_row(table, row) {
         return read_row(table, row);
     }
     Row {

@@ -2,7 +2,6 @@
 use mathlib.Core.Path.{sym, subst}
 use native.Mathlib.Omega.{arith}
 use Rattle.rules.specs.Rows.{rowsOf}
-use Rattle.rules.proofs.RowLaws.{row-within}
 use Rattle.step.specs.Turns.{Apart, Found}
 use Rattle.step.proofs.StepLaws.{apart-none, apart-more}
 use Rattle.step.proofs.take_apart.Statement.{statement}
@@ -131,7 +130,7 @@ read-row-requires c κs =
     apart-more (rowsOf (a .table .now)) (start .pre .0) (a .entries .now) (loop .loop .entries) (a .pending) (loop .loop .n) (loop .loop .i)
     (loop .loop .here) (start .pre .3) (loop .loop .inv .0) (loop .loop .inv .1) (inside .before .is-sequence .ensures .0 (inside .if1 .taken))
     in
-    row-within (a .table .now) (loop .loop .here .p) (more .4 .within)
+    more .4 .within
 
 loop-less : tie.Need-loop-less Inv-loop μ-loop
 loop-less c =

@@ -2,17 +2,16 @@
 use borrow.Author.Needs.{needs}
 use native.Mathlib.Omega.{arith}
 use native.Mathlib.Nat.{mod-eq-of-lt}
-use mathlib.Core.Path.{_≡_, sym, subst, ap, ap₂, _∙_}
+use mathlib.Core.Path.{_≡_, sym, ap, ap₂, _∙_}
 use lib.ListN.{length}
 use Rattle.rules.specs.declared.Kind.{Kind}
-use Rattle.rules.specs.declared.Row.{Row}
 use Rattle.rules.specs.Marks.{only, union}
 use Rattle.rules.specs.Rows.{rowsOf}
 use Rattle.rules.specs.Trees.{exprAt, stmtAt, stmtNode}
 use Rattle.rules.specs.Values.{mayAssign}
 use Rattle.rules.specs.Sound.{SoundRow, Sound}
-use Rattle.rules.proofs.RowLaws.{row-within, kind-arm}
-use Rattle.rules.proofs.TreeLaws.{stmt-law, assign-words, sequence-words, if-words, while-words}
+use Rattle.rules.proofs.RowLaws.{kind-arm}
+use Rattle.rules.proofs.TreeLaws.{sound-as, stmt-of-row, assign-words, sequence-words, if-words, while-words}
 use Rattle.rules.proofs.ValueLaws.{assign-arms}
 use Prim.Native.Nat.{ℕ, _<_}
 use borrow.Fn.Kinds.{In}
@@ -49,22 +48,19 @@ calls t = (
   joined-reads.Learnt,
 )
 
--- after the row is read: what it is, as a row of some kind; a row below it may be asked; and what the row may assign
+-- after the row is read: its words, where its kind is known; a row below it may be asked; and what the row may assign
 module _ (t : ℕ) (c : may-assign-lts.After-read-row (calls t) (may-assign-at t) may-assign.Post) where
-  sound-as : (kind : Kind) → c .read-row .result .kind ≡ kind → SoundRow (rowsOf (c .before .before .args .table .now)) (c .before .before .args .row) kind (c .read-row .result)
-  sound-as kind e =
-      let start = c .before .before in
-      let rows = rowsOf (start .args .table .now) in
-      let i = start .args .row in
-      subst (λ (k : Kind). SoundRow rows i k (c .read-row .result)) e
-      (subst (λ (row : Row). SoundRow rows i (row .kind) row) (sym (c .read-row .ensures)) (start .pre .1 .0 .row i (start .pre .1 .1)))
+  words-as :
+      {kind : Kind} → c .read-row .result .kind ≡ kind
+      → SoundRow (rowsOf (c .before .before .args .table .now)) (c .before .before .args .row) kind (c .read-row .result)
+  words-as = sound-as (c .before .before .pre .1 .0) (c .before .before .pre .1 .1) (c .read-row .ensures)
 
   below :
       {w : ℕ} → w < c .before .before .args .row
       → (w < t) × (Sound (rowsOf (c .before .before .args .table .now)) × (w < length (rowsOf (c .before .before .args .table .now))))
   below h =
-      let start = c .before .before in
-      (omega (arith, start .pre .0), (start .pre .1 .0, omega (arith, start .pre .1 .1)))
+      let pre = c .before .before .pre in
+      (omega (arith, pre .0), (pre .1 .0, omega (arith, pre .1 .1)))
 
   of-row :
       {set : ℕ}
@@ -74,15 +70,10 @@ module _ (t : ℕ) (c : may-assign-lts.After-read-row (calls t) (may-assign-at t
       ≡ set
       → set ≡ mayAssign (stmtAt (rowsOf (c .before .before .args .table .now)) (c .before .before .args .row))
   of-row e =
-      let start = c .before .before in
-      let rows = rowsOf (start .args .table .now) in
-      let i = start .args .row in
-      sym e
-      ∙ ap (λ (row : Row). mayAssign (stmtNode (exprAt rows) (stmtAt rows) i row (row .kind))) (c .read-row .ensures)
-      ∙ ap mayAssign (sym (stmt-law rows (start .pre .1 .0) i (start .pre .1 .1)))
+      sym e ∙ ap mayAssign (stmt-of-row (c .before .before .pre .1 .0) (c .before .before .pre .1 .1) (c .read-row .ensures))
 
 may-assign-read-row-requires : (t : ℕ) → may-assign-lts.Need-read-row-requires (calls t) (may-assign-at t) may-assign.Post
-may-assign-read-row-requires t c κs = row-within (c .before .args .table .now) (c .before .args .row) (c .before .pre .1 .1)
+may-assign-read-row-requires t c κs = c .before .pre .1 .1
 
 may-assign-enum-told : (t : ℕ) → may-assign-lts.Need-enum-told (calls t) (may-assign-at t) may-assign.Post
 may-assign-enum-told t c = search needs
@@ -95,11 +86,11 @@ may-assign-enum-told-2 t c = search needs
 
 may-assign-may-assign-requires : (t : ℕ) → may-assign-lts.Need-may-assign-requires (calls t) (may-assign-at t) may-assign.Post
 may-assign-may-assign-requires t c κs =
-    below t (c .before .before) (sequence-words (sound-as t (c .before .before) Kind.Sequence (c .enum-told2 .given .1)) .0)
+    below t (c .before .before) (sequence-words (words-as t (c .before .before) (c .enum-told2 .given .1)) .0)
 
 may-assign-may-assign-requires-2 : (t : ℕ) → may-assign-lts.Need-may-assign-requires-2 (calls t) (may-assign-at t) may-assign.Post
 may-assign-may-assign-requires-2 t c κs =
-    below t (c .before .before .before) (sequence-words (sound-as t (c .before .before .before) Kind.Sequence (c .before .enum-told2 .given .1)) .1)
+    below t (c .before .before .before) (sequence-words (words-as t (c .before .before .before) (c .before .enum-told2 .given .1)) .1)
 
 may-assign-joined-requires : (t : ℕ) → may-assign-lts.Need-joined-requires (calls t) (may-assign-at t) may-assign.Post
 may-assign-joined-requires t c κs = tt
@@ -109,11 +100,11 @@ may-assign-enum-told-3 t c = search needs
 
 may-assign-may-assign-requires-3 : (t : ℕ) → may-assign-lts.Need-may-assign-requires-3 (calls t) (may-assign-at t) may-assign.Post
 may-assign-may-assign-requires-3 t c κs =
-    below t (c .before .before) (if-words (sound-as t (c .before .before) Kind.If (c .enum-told3 .given .1)) .1)
+    below t (c .before .before) (if-words (words-as t (c .before .before) (c .enum-told3 .given .1)) .1)
 
 may-assign-may-assign-requires-4 : (t : ℕ) → may-assign-lts.Need-may-assign-requires-4 (calls t) (may-assign-at t) may-assign.Post
 may-assign-may-assign-requires-4 t c κs =
-    below t (c .before .before .before) (if-words (sound-as t (c .before .before .before) Kind.If (c .before .enum-told3 .given .1)) .2)
+    below t (c .before .before .before) (if-words (words-as t (c .before .before .before) (c .before .enum-told3 .given .1)) .2)
 
 may-assign-joined-requires-2 : (t : ℕ) → may-assign-lts.Need-joined-requires-2 (calls t) (may-assign-at t) may-assign.Post
 may-assign-joined-requires-2 t c κs = tt
@@ -123,13 +114,13 @@ may-assign-enum-told-4 t c = search needs
 
 may-assign-may-assign-requires-5 : (t : ℕ) → may-assign-lts.Need-may-assign-requires-5 (calls t) (may-assign-at t) may-assign.Post
 may-assign-may-assign-requires-5 t c κs =
-    below t (c .before .before) (while-words (sound-as t (c .before .before) Kind.While (c .enum-told4 .given .1)) .1)
+    below t (c .before .before) (while-words (words-as t (c .before .before) (c .enum-told4 .given .1)) .1)
 
 may-assign-returns : (t : ℕ) → may-assign-lts.Need-returns (calls t) (may-assign-at t) may-assign.Post
 may-assign-returns t c =
     let told = c .before in
     let here = told .before .before in
-    c .only-mark .ensures ∙ ap only (mod-eq-of-lt (assign-words (sound-as t here Kind.Assign (told .enum-told .given .1)) .0))
+    c .only-mark .ensures ∙ ap only (mod-eq-of-lt (assign-words (words-as t here (told .enum-told .given .1)) .0))
     ∙ of-row t here (kind-arm (assign-arms _ _ _ _ .0) _ (told .before .match .keys1))
 
 may-assign-returns-2 : (t : ℕ) → may-assign-lts.Need-returns-2 (calls t) (may-assign-at t) may-assign.Post

@@ -2,16 +2,15 @@
 use borrow.Author.Needs.{needs}
 use native.Mathlib.Omega.{arith}
 use native.Mathlib.Nat.{mod-eq-of-lt}
-use mathlib.Core.Path.{_≡_, sym, subst, ap, _∙_}
+use mathlib.Core.Path.{_≡_, sym, ap, _∙_}
 use lib.ListN.{length}
 use Rattle.rules.specs.declared.Kind.{Kind}
-use Rattle.rules.specs.declared.Row.{Row}
 use Rattle.rules.specs.Limits.{width}
 use Rattle.rules.specs.Rows.{rowsOf}
 use Rattle.rules.specs.Trees.{Expr, variable, exprAt, exprNode}
 use Rattle.rules.specs.Sound.{SoundRow, Sound}
-use Rattle.rules.proofs.RowLaws.{row-within, kind-arm}
-use Rattle.rules.proofs.TreeLaws.{expr-law, expr-arms, variable-words, binary-words}
+use Rattle.rules.proofs.RowLaws.{kind-arm}
+use Rattle.rules.proofs.TreeLaws.{sound-as, expr-of-row, expr-arms, variable-words, binary-words}
 use Rattle.expression.specs.declared.values.Valued.{Valued}
 use Rattle.expression.specs.Valued.{valuedOf}
 use Rattle.expression.proofs.ValuedLaws.{valued-constant, valued-binary}
@@ -52,15 +51,12 @@ calls t = (
   joined-reads.Learnt,
 )
 
--- after the row is read: what it is, as a row of some kind; a row below it may be asked; and the value and level of the row
+-- after the row is read: its words, where its kind is known; a row below it may be asked; and the row's value and level
 module _ (t : ℕ) (c : evaluate-lts.After-read-row (calls t) (evaluate-at t) evaluate.Post) where
-  sound-as : (kind : Kind) → c .read-row .result .kind ≡ kind → SoundRow (rowsOf (c .before .before .args .table .now)) (c .before .before .args .row) kind (c .read-row .result)
-  sound-as kind e =
-      let start = c .before .before in
-      let rows = rowsOf (start .args .table .now) in
-      let i = start .args .row in
-      subst (λ (k : Kind). SoundRow rows i k (c .read-row .result)) e
-      (subst (λ (row : Row). SoundRow rows i (row .kind) row) (sym (c .read-row .ensures)) (start .pre .1 .0 .row i (start .pre .1 .1)))
+  words-as :
+      {kind : Kind} → c .read-row .result .kind ≡ kind
+      → SoundRow (rowsOf (c .before .before .args .table .now)) (c .before .before .args .row) kind (c .read-row .result)
+  words-as = sound-as (c .before .before .pre .1 .0) (c .before .before .pre .1 .1) (c .read-row .ensures)
 
   below :
       {w : ℕ} → w < c .before .before .args .row
@@ -69,8 +65,8 @@ module _ (t : ℕ) (c : evaluate-lts.After-read-row (calls t) (evaluate-at t) ev
       × (w < length (rowsOf (c .before .before .args .table .now)))
       × (length (c .before .before .args .words .now) ≡ width))
   below h =
-      let start = c .before .before in
-      (omega (arith, start .pre .0), (start .pre .1 .0, omega (arith, start .pre .1 .1), start .pre .1 .2))
+      let pre = c .before .before .pre in
+      (omega (arith, pre .0), (pre .1 .0, omega (arith, pre .1 .1), pre .1 .2))
 
   of-row :
       {e : Expr} {r : Valued}
@@ -81,15 +77,13 @@ module _ (t : ℕ) (c : evaluate-lts.After-read-row (calls t) (evaluate-at t) ev
       (exprAt (rowsOf (c .before .before .args .table .now)) (c .before .before .args .row))
   of-row e known =
       let start = c .before .before in
-      let rows = rowsOf (start .args .table .now) in
-      let i = start .args .row in
       known
       ∙ ap
       (valuedOf (start .args .words .now) (start .args .marks))
-      (sym e ∙ ap (λ (row : Row). exprNode (exprAt rows) row (row .kind)) (c .read-row .ensures) ∙ sym (expr-law rows (start .pre .1 .0) i (start .pre .1 .1)))
+      (sym e ∙ expr-of-row (start .pre .1 .0) (start .pre .1 .1) (c .read-row .ensures))
 
 evaluate-read-row-requires : (t : ℕ) → evaluate-lts.Need-read-row-requires (calls t) (evaluate-at t) evaluate.Post
-evaluate-read-row-requires t c κs = row-within (c .before .args .table .now) (c .before .args .row) (c .before .pre .1 .1)
+evaluate-read-row-requires t c κs = c .before .pre .1 .1
 
 evaluate-enum-told : (t : ℕ) → evaluate-lts.Need-enum-told (calls t) (evaluate-at t) evaluate.Post
 evaluate-enum-told t c = search needs
@@ -105,11 +99,11 @@ evaluate-enum-told-3 t c = search needs
 
 evaluate-evaluate-requires : (t : ℕ) → evaluate-lts.Need-evaluate-requires (calls t) (evaluate-at t) evaluate.Post
 evaluate-evaluate-requires t c κs =
-    below t (c .before .before) (binary-words (sound-as t (c .before .before) Kind.Binary (c .enum-told3 .given .1)) .0)
+    below t (c .before .before) (binary-words (words-as t (c .before .before) (c .enum-told3 .given .1)) .0)
 
 evaluate-evaluate-requires-2 : (t : ℕ) → evaluate-lts.Need-evaluate-requires-2 (calls t) (evaluate-at t) evaluate.Post
 evaluate-evaluate-requires-2 t c κs =
-    below t (c .before .before .before) (binary-words (sound-as t (c .before .before .before) Kind.Binary (c .before .enum-told3 .given .1)) .1)
+    below t (c .before .before .before) (binary-words (words-as t (c .before .before .before) (c .before .enum-told3 .given .1)) .1)
 
 evaluate-operated-requires : (t : ℕ) → evaluate-lts.Need-operated-requires (calls t) (evaluate-at t) evaluate.Post
 evaluate-operated-requires t c κs = tt
@@ -126,7 +120,7 @@ evaluate-returns-2 t c =
     let told = c .before in
     let here = told .before .before in
     of-row t here (kind-arm (expr-arms _ _ .1) _ (told .before .match .keys2))
-    (c .read-variable .ensures ∙ ap (λ (v : ℕ). valuedOf (here .before .before .args .words .now) (here .before .before .args .marks) (variable v)) (mod-eq-of-lt (variable-words (sound-as t here Kind.Variable (told .enum-told2 .given .1)))))
+    (c .read-variable .ensures ∙ ap (λ (v : ℕ). valuedOf (here .before .before .args .words .now) (here .before .before .args .marks) (variable v)) (mod-eq-of-lt (variable-words (words-as t here (told .enum-told2 .given .1)))))
 
 evaluate-returns-3 : (t : ℕ) → evaluate-lts.Need-returns-3 (calls t) (evaluate-at t) evaluate.Post
 evaluate-returns-3 t c =

@@ -6,7 +6,6 @@ use lib.ListN.{length}
 use Rattle.rules.specs.Rows.{rowsOf, rowAt}
 use Rattle.rules.specs.Judging.{wrongChildren, lowest}
 use Rattle.rules.proofs.JudgeLaws.{lowest-step, lowest-found, lowest-end}
-use Rattle.rules.proofs.RowLaws.{row-within}
 use Rattle.table.specs.Refused.{refusedChildren}
 use Rattle.table.proofs.children.judge_children.Statement.{statement}
 use Rattle.table.proofs.children.judge_children.Tie as tie
@@ -25,9 +24,7 @@ loop-holds c =
     (omega arith, ap (lowest 3 _ 0) e)
 
 read-row-requires : tie.Need-read-row-requires Inv-loop μ-loop
-read-row-requires c κs =
-    let a = c .before .before .before .args in
-    row-within (a .table .now) (c .before .loop .i) (omega (arith, c .before .before .before .pre))
+read-row-requires c κs = omega (arith, c .before .before .before .pre)
 
 wrong-children-requires : tie.Need-wrong-children-requires Inv-loop μ-loop
 wrong-children-requires c κs = omega (arith, c .before .before .before .before .pre)

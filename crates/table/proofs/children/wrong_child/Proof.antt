@@ -4,7 +4,7 @@ use mathlib.Core.Bool.{not}
 use mathlib.Core.Path.{sym, ap, _∙_}
 use Rattle.rules.specs.declared.Row.{Row}
 use Rattle.rules.specs.Rows.{rowsOf, isStatement, isExpression}
-use Rattle.rules.proofs.RowLaws.{role-arm, row-within}
+use Rattle.rules.proofs.RowLaws.{role-arm}
 use Rattle.rules.proofs.RefusalLaws.{child-arms, late, early}
 use borrow.Author.Needs.{needs}
 use Rattle.table.proofs.children.wrong_child.Statement.{statement}
@@ -20,9 +20,7 @@ returns c =
     sym (role-arm (child-arms (rowsOf (a .table .now)) (a .parent) (a .word) .0) (a .role) (told .match .keys1) ∙ late (a .parent) (a .word) _ (c .if1 .taken))
 
 read-row-requires : tie.Need-read-row-requires
-read-row-requires c κs =
-    let a = c .before .before .before .before .args in
-    row-within (a .table .now) (a .word) (omega (arith, c .before .before .before .before .pre, c .if1 .left))
+read-row-requires c κs = omega (arith, c .before .before .before .before .pre, c .if1 .left)
 
 is-statement-requires : tie.Need-is-statement-requires
 is-statement-requires c κs = search needs
@@ -37,9 +35,7 @@ returns-2 c =
     sym (role-arm (child-arms (rowsOf (a .table .now)) (a .parent) (a .word) .1) (a .role) (told .match .keys2) ∙ late (a .parent) (a .word) _ (c .if2 .taken))
 
 read-row-requires-2 : tie.Need-read-row-requires-2
-read-row-requires-2 c κs =
-    let a = c .before .before .before .before .args in
-    row-within (a .table .now) (a .word) (omega (arith, c .before .before .before .before .pre, c .if2 .left))
+read-row-requires-2 c κs = omega (arith, c .before .before .before .before .pre, c .if2 .left)
 
 is-expression-requires : tie.Need-is-expression-requires
 is-expression-requires c κs = search needs

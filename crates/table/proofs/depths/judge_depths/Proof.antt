@@ -1,14 +1,13 @@
 -- `table::depths::judge_depths` meets its contract: what is left to search gives the same answer as the whole.
-use Prim.Native.Nat.{ℕ, _-_, _%_, _≤_, _<_}
+use Prim.Native.Nat.{_-_, _≤_, _<_}
 use native.Mathlib.Omega.{arith}
-use mathlib.Core.Path.{_≡_, refl, sym, subst, ap, _∙_}
-use lib.ListN.{length, getD}
+use mathlib.Core.Path.{_≡_, sym, ap, _∙_}
+use lib.ListN.{length}
 use Rattle.rules.specs.Limits.{mostRows}
 use Rattle.rules.specs.Rows.{rowsOf}
 use Rattle.rules.specs.Judging.{tooDeep, lowest}
 use Rattle.rules.specs.OnePass.{depthAt, overLimits}
 use Rattle.rules.proofs.JudgeLaws.{lowest-step, lowest-found, lowest-end, fitting-rows}
-use Rattle.rules.proofs.RowLaws.{row-within}
 use Rattle.rules.proofs.RefusalLaws.{within-limits, too-deep-law}
 use Rattle.table.specs.Refused.{refusedDepths}
 use Rattle.table.proofs.DepthLaws.{Kept, kept-none, kept-more, kept-depth}
@@ -22,6 +21,13 @@ Inv-loop table rows depths₀ i₀ depths i =
 abbrev μ-loop : tie.MeasureT-loop
 μ-loop table rows depths₀ i₀ depths i = rows - i
 
+-- the turn in which a depth was found, and that its row has a place
+abbrev turn : tie.After-depth-by Inv-loop μ-loop → tie.In-loop Inv-loop μ-loop
+turn c = c .before .before .before .before .before .before .before .before
+
+small : (c : tie.In-loop Inv-loop μ-loop) → c .before .loop .i < mostRows
+small c = omega (arith, c .loop-test .taken, c .before .before .before .pre .0 .0)
+
 loop-holds : tie.Need-loop-holds Inv-loop μ-loop
 loop-holds c =
     let start = c .before in
@@ -29,9 +35,7 @@ loop-holds c =
     (omega arith, ap (lowest 5 _ 0) e, kept-none (rowsOf (start .args .table .now)))
 
 read-row-requires : tie.Need-read-row-requires Inv-loop μ-loop
-read-row-requires c κs =
-    let start = c .before .before .before in
-    row-within (start .args .table .now) (c .before .loop .i) (omega (arith, start .pre .0 .1))
+read-row-requires c κs = omega (arith, c .before .before .before .pre .0 .1)
 
 place-requires : tie.Need-place-requires Inv-loop μ-loop
 place-requires c κs = tt
@@ -72,50 +76,49 @@ over-limits-requires c κs = tt
 next-depth :
     (c : tie.After-depth-by Inv-loop μ-loop) →
     c .depth-by .result
-    ≡ depthAt (rowsOf (c .before .before .before .before .before .before .before .before .before .before .before .args .table .now)) (c .before .before .before .before .before .before .before .before .before .loop .i)
+    ≡ depthAt (rowsOf (turn c .before .before .before .args .table .now)) (turn c .before .loop .i)
 next-depth c =
     let read = c .before .before .before .before .before .before .before in
-    let turn = read .before in
-    let start = turn .before .before .before in
+    let head = turn c .before in
+    let start = head .before .before in
     let rows = rowsOf (start .args .table .now) in
     c .depth-by .ensures
-    ∙ kept-depth rows (turn .before .loop .depths) (turn .before .loop .i) (read .read-row .result) _ _ _
-    (fitting-rows rows (start .pre .1 .0) (start .pre .1 .1)) (turn .before .loop .inv .2)
-    (omega (arith, turn .loop-test .taken, start .pre .0 .1)) (omega (arith, turn .loop-test .taken, start .pre .0 .0))
+    ∙ kept-depth rows (head .loop .depths) (head .loop .i) (read .read-row .result) _ _ _
+    (fitting-rows rows (start .pre .1 .0) (start .pre .1 .1)) (head .loop .inv .2)
+    (omega (arith, turn c .loop-test .taken, start .pre .0 .1)) (small (turn c))
     (read .read-row .ensures) (c .before .before .before .before .before .before .place .ensures)
     (c .before .before .before .before .place2 .ensures) (c .before .before .place3 .ensures)
 
 returns : tie.Need-returns Inv-loop μ-loop
 returns c =
     let known = c .before .before in
-    let turn = known .before .before .before .before .before .before .before .before in
-    lowest-found 5 _ (turn .before .loop .i) (turn .before .before .before .args .rows) (turn .loop-test .taken)
-    (too-deep-law _ _ ∙ ap overLimits (sym (next-depth known)) ∙ sym (c .before .over-limits .ensures) ∙ c .if1 .taken) (turn .before .loop .inv .1)
+    let head = turn known .before in
+    lowest-found 5 _ (head .loop .i) (head .before .before .args .rows) (turn known .loop-test .taken)
+    (too-deep-law _ _ ∙ ap overLimits (sym (next-depth known)) ∙ sym (c .before .over-limits .ensures) ∙ c .if1 .taken) (head .loop .inv .1)
 
 cast-at : tie.Need-cast-at Inv-loop μ-loop
-cast-at c = omega (arith, c .before .before .before .before .before .before .before .before .before .before .loop-test .taken, c .before .before .before .before .before .before .before .before .before .before .before .before .before .pre .0 .0)
+cast-at c = omega (arith, small (turn (c .before .before)))
 
 mul-depths : tie.Need-mul-depths Inv-loop μ-loop
-mul-depths c = omega (arith, c .before .before .before .before .before .before .before .before .before .before .loop-test .taken, c .before .before .before .before .before .before .before .before .before .before .before .before .before .pre .0 .0)
+mul-depths c = omega (arith, small (turn (c .before .before)))
 
 array-set-from-depths : tie.Need-array-set-from-depths Inv-loop μ-loop
-array-set-from-depths c = omega (arith, c .before .before .before .before .before .before .before .before .before .before .loop-test .taken, c .before .before .before .before .before .before .before .before .before .before .before .before .before .pre .0 .0)
+array-set-from-depths c = omega (arith, small (turn (c .before .before)))
 
 add-i : tie.Need-add-i Inv-loop μ-loop
-add-i c = omega (arith, c .before .before .before .before .before .before .before .before .before .before .loop-test .taken, c .before .before .before .before .before .before .before .before .before .before .before .before .before .pre .0 .0)
+add-i c = omega (arith, small (turn (c .before .before)))
 
 loop-less : tie.Need-loop-less Inv-loop μ-loop
-loop-less c = omega (arith, c .before .before .before .before .before .before .before .before .before .before .loop-test .taken)
+loop-less c = omega (arith, turn (c .before .before) .loop-test .taken)
 
 loop-again : tie.Need-loop-again Inv-loop μ-loop
 loop-again c =
     let known = c .before .before in
-    let turn = known .before .before .before .before .before .before .before .before in
-    let start = turn .before .before .before in (
-      omega (arith, turn .loop-test .taken),
-      lowest-step 5 _ (turn .before .loop .i) (start .args .rows) (turn .loop-test .taken)
-          (too-deep-law _ _ ∙ ap overLimits (sym (next-depth known)) ∙ sym (c .before .over-limits .ensures) ∙ c .if1 .left) (turn .before .loop .inv .1),
-      kept-more _ _ _ _ (turn .before .loop .inv .2) (omega (arith, turn .loop-test .taken, start .pre .0 .0)) (next-depth known)
+    let head = turn known .before in (
+      omega (arith, turn known .loop-test .taken),
+      lowest-step 5 _ (head .loop .i) (head .before .before .args .rows) (turn known .loop-test .taken)
+          (too-deep-law _ _ ∙ ap overLimits (sym (next-depth known)) ∙ sym (c .before .over-limits .ensures) ∙ c .if1 .left) (head .loop .inv .1),
+      kept-more _ _ _ _ (head .loop .inv .2) (small (turn known)) (next-depth known)
           (within-limits _ (sym (c .before .over-limits .ensures) ∙ c .if1 .left)),
     )
 

@@ -1,13 +1,12 @@
 -- `table::parents::count_parents` meets its contract: what is counted is the children of the rows passed.
 use Prim.Native.Nat.{_-_, _≤_}
 use native.Mathlib.Omega.{arith}
-use mathlib.Core.Path.{_≡_, sym, subst, ap, _∙_}
+use mathlib.Core.Path.{_≡_, sym, subst, ap}
 use lib.ListN.{length, take}
 use Rattle.rules.specs.Limits.{mostRows}
 use Rattle.rules.specs.Rows.{rowsOf}
 use Rattle.rules.specs.Judging.{children}
 use Rattle.rules.specs.OnePass.{childrenOf}
-use Rattle.rules.proofs.RowLaws.{row-within}
 use Rattle.rules.proofs.RefusalLaws.{children-none, children-more, children-all}
 use Rattle.table.specs.Parents.{Counted}
 use Rattle.table.proofs.CountLaws.{counted-none, counted-then}
@@ -26,9 +25,7 @@ loop-holds c =
     (omega arith, c .before .pre .1, subst (Counted _ _) (sym children-none) (counted-none (c .before .args .parents .now) (c .before .pre .1)))
 
 read-row-requires : tie.Need-read-row-requires Inv-loop μ-loop
-read-row-requires c κs =
-    let start = c .before .before .before .before in
-    row-within (start .args .table .now) (c .before .before .loop .i) (omega (arith, start .pre .0))
+read-row-requires c κs = omega (arith, c .before .before .before .before .pre .0)
 
 count-children-requires : tie.Need-count-children-requires Inv-loop μ-loop
 count-children-requires c κs = c .before .before .before .loop .inv .1

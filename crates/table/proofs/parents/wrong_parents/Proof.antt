@@ -3,7 +3,6 @@ use native.Mathlib.Omega.{arith}
 use mathlib.Core.Path.{sym, ap, _∙_}
 use Rattle.rules.specs.declared.Row.{Row}
 use Rattle.rules.specs.Rows.{rowsOf, isExpression}
-use Rattle.rules.proofs.RowLaws.{row-within}
 use Rattle.rules.proofs.RefusalLaws.{last-law, inner-law}
 use borrow.Author.Needs.{needs}
 use Rattle.table.proofs.parents.wrong_parents.Statement.{statement}
@@ -13,9 +12,7 @@ add-if1 : tie.Need-add-if1
 add-if1 c = search needs
 
 read-row-requires : tie.Need-read-row-requires
-read-row-requires c κs =
-    let start = c .before .before in
-    row-within (start .args .table .now) (start .args .i) (omega (arith, start .pre .0, start .pre .1))
+read-row-requires c κs = omega (arith, c .before .before .pre .0, c .before .before .pre .1)
 
 is-expression-requires : tie.Need-is-expression-requires
 is-expression-requires c κs = search needs

@@ -1,8 +1,15 @@
 -- `table::rows::read_row` meets its contract.
-use Rattle.rules.proofs.RowLaws.{row-read}
+use Prim.Native.Nat.{_+_, _*_, _<_}
+use native.Mathlib.Omega.{arith}
+use lib.ListN.{length}
+use Rattle.rules.proofs.RowLaws.{row-within, row-read}
 use borrow.Author.Needs.{needs}
 use Rattle.table.proofs.rows.read_row.Statement.{statement}
 use Rattle.table.proofs.rows.read_row.Tie as tie
+
+-- the row's four words stand within the table
+four : (c : tie.Start) → c .args .row * 4 + 3 < length (c .args .table .now)
+four c = row-within (c .args .table .now) (c .args .row) (c .pre)
 
 mul-at : tie.Need-mul-at
 mul-at c = search needs
@@ -11,7 +18,7 @@ mul-kind-of : tie.Need-mul-kind-of
 mul-kind-of c = search needs
 
 shared-slice-read-kind-of : tie.Need-shared-slice-read-kind-of
-shared-slice-read-kind-of c = search needs
+shared-slice-read-kind-of c = omega (arith, four (c .before .before))
 
 kind-of-requires : tie.Need-kind-of-requires
 kind-of-requires c κs = search needs
@@ -23,7 +30,7 @@ mul-t9 : tie.Need-mul-t9
 mul-t9 c = search needs
 
 shared-slice-read-t11 : tie.Need-shared-slice-read-t11
-shared-slice-read-t11 c = search needs
+shared-slice-read-t11 c = omega (arith, four (c .before .before .before .before))
 
 add-t12 : tie.Need-add-t12
 add-t12 c = search needs
@@ -32,7 +39,7 @@ mul-t13 : tie.Need-mul-t13
 mul-t13 c = search needs
 
 shared-slice-read-t15 : tie.Need-shared-slice-read-t15
-shared-slice-read-t15 c = search needs
+shared-slice-read-t15 c = omega (arith, four (c .before .before .before .before .before))
 
 add-t16 : tie.Need-add-t16
 add-t16 c = search needs
@@ -41,12 +48,12 @@ mul-t17 : tie.Need-mul-t17
 mul-t17 c = search needs
 
 shared-slice-read-t19 : tie.Need-shared-slice-read-t19
-shared-slice-read-t19 c = search needs
+shared-slice-read-t19 c = omega (arith, four (c .before .before .before .before .before .before))
 
 returns : tie.Need-returns
 returns c =
     let a = c .before .before .before .before .before .before .args in
-    row-read (a .table .now) (a .row) (c .before .before .before .kind-of .result) (c .before .before .before .before .before .before .pre) (c .before .before .before .kind-of .ensures)
+    row-read (a .table .now) (a .row) (c .before .before .before .kind-of .result) (four (c .before .before .before .before .before .before)) (c .before .before .before .kind-of .ensures)
 
 pub read-row-spec : {M : Type 1} → statement M
 read-row-spec =

@@ -6,7 +6,6 @@ use lib.ListN.{length}
 use Rattle.rules.specs.Rows.{rowsOf, rowAt}
 use Rattle.rules.specs.Judging.{wrongWords, lowest}
 use Rattle.rules.proofs.JudgeLaws.{lowest-step, lowest-found, lowest-end}
-use Rattle.rules.proofs.RowLaws.{row-within}
 use Rattle.table.specs.Refused.{refusedWords}
 use Rattle.table.proofs.words.judge_words.Statement.{statement}
 use Rattle.table.proofs.words.judge_words.Tie as tie
@@ -24,9 +23,7 @@ loop-holds c =
     (omega arith, ap (lowest 2 _ 0) e)
 
 read-row-requires : tie.Need-read-row-requires Inv-loop μ-loop
-read-row-requires c κs =
-    let a = c .before .before .before .args in
-    row-within (a .table .now) (c .before .loop .i) (omega (arith, c .before .before .before .pre))
+read-row-requires c κs = omega (arith, c .before .before .before .pre)
 
 wrong-words-requires : tie.Need-wrong-words-requires Inv-loop μ-loop
 wrong-words-requires c κs = tt

@@ -1,11 +1,11 @@
--- `table::rows::roles_of` meets its contract: the constant table has at every place what the rules say.
+-- `table::kinds::roles_of` meets its contract: the constant table has at every place what the rules say.
 use native.Mathlib.Omega.{arith}
 use mathlib.Core.Path.{ap, _∙_}
 use lib.ListN.{getD}
 use Rattle.rules.proofs.RowLaws.{rolesTable, roles-law, place-within}
 use borrow.Author.Needs.{needs}
-use Rattle.table.proofs.rows.roles_of.Statement.{statement}
-use Rattle.table.proofs.rows.roles_of.Tie as tie
+use Rattle.table.proofs.kinds.roles_of.Statement.{statement}
+use Rattle.table.proofs.kinds.roles_of.Tie as tie
 
 place-of-requires : tie.Need-place-of-requires
 place-of-requires c κs = search needs
