@@ -41,7 +41,7 @@ read-row-requires : tie.Need-read-row-requires
 read-row-requires c κs =
     let start = c .before .before .before .before in
     let a = start .args in
-    found-next (rowsOf (a .table .now)) (a .words .now) (a .entries .now) (a .pile .now) (a .trace .now) (a .held) (start .pre .0 (start .pre .1) _ refl (c .if1 .left) .0)
+    found-next (rowsOf (a .table .now)) (a .words .now) (a .entries .now) (a .pile .now) (a .trace .now) (a .held) (start .pre .0) (start .pre .1) _ refl (c .if1 .left) .0
 
 sub-take-apart : tie.Need-sub-take-apart
 sub-take-apart c = search needs
