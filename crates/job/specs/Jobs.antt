@@ -1,0 +1,98 @@
+-- Document 01, "Job and report": what a job's text reads as, and the text of a job.
+use Prim.Native.Nat.{ℕ, zero, suc, _+_, _-_, _*_}
+use mathlib.Core.Bool.{Bool, true, false}
+use mathlib.Core.List.{List, [], _∷_, _++_}
+use lib.Dec.{ltb}
+use lib.ListN.{length, getD, take, drop, replicate}
+use Rattle.rules.specs.Limits.{width, rowWords, mostRows, mostJobBytes}
+use Rattle.job.specs.Limits.{mostWord, mostRoom, mostInputs, tableWords, lacksForm, tooLong}
+use Rattle.job.specs.Lines.{budgetKey, roomKey, levelsKey, inputsKey, inKey, rowsKey, rowKeys, Line, line, faulty, lineOf, Lines, lines, broken, linesOf, lineText, oneText}
+
+-- What a job says: budget, room and mark set, the values of v0 onward, and the words of the table.
+pub record Job : Type 0 where
+  pub budget : ℕ
+  pub room : ℕ
+  pub marks : ℕ
+  pub inputs : List ℕ
+  pub table : List ℕ
+
+-- What a text reads as: a job, or a refusal with its number and line.
+pub data Told : Type 0 where
+  told : Job → Told
+  untold : ℕ → ℕ → Told
+
+-- "then the first faulty line": a line of one number; what follows is read with the number and the text after the line.
+unfoldable pub one : ℕ → Line → (ℕ → List ℕ → Told) → Told
+one at (line values text) more = more (getD values 0 0) text
+one at (faulty refusal) more = untold refusal at
+
+unfoldable pub many : Lines → (List ℕ → List ℕ → Told) → Told
+many (lines values text) more = more values text
+many (broken refusal at) more = untold refusal at
+
+-- "and then the input ends. A further line .. is 7."
+unfoldable pub finish : ℕ → Job → List ℕ → Told
+finish at job [] = told job
+finish at job (byte ∷ text) = untold lacksForm at
+
+-- "that many `in=` lines for v0 onward"
+unfoldable pub inLine : List ℕ → Line
+inLine text = lineOf (inKey ∷ []) mostWord text
+
+-- "that many `row=k,p,q,r` lines"
+unfoldable pub rowLine : List ℕ → Line
+rowLine text = lineOf rowKeys mostWord text
+
+-- "`rows=` (0 to 512), that many `row=k,p,q,r` lines, and then the input ends."; at is the line of `rows=`
+unfoldable pub readTable : ℕ → ℕ → ℕ → ℕ → List ℕ → List ℕ → Told
+readTable budget room marks at inputs text =
+    one at (lineOf (rowsKey ∷ []) mostRows text)
+    (λ rows afterRows.
+    many (linesOf rowLine rows (at + 1) [] afterRows)
+    (λ table end.
+    finish (at + 1 + rows)
+    (record { budget = budget; room = room; marks = marks; inputs = inputs; table = table })
+    end))
+
+-- "`budget=`, `room=` (records, 0 to 8192), `levels=`, `inputs=` (0 to 32), that many `in=` lines"; "lines count from 1"
+unfoldable pub readLines : List ℕ → Told
+readLines text =
+    one 1 (lineOf (budgetKey ∷ []) mostWord text)
+    (λ budget afterBudget.
+    one 2 (lineOf (roomKey ∷ []) mostRoom afterBudget)
+    (λ room afterRoom.
+    one 3 (lineOf (levelsKey ∷ []) mostWord afterRoom)
+    (λ marks afterMarks.
+    one 4 (lineOf (inputsKey ∷ []) mostInputs afterMarks)
+    (λ inputs afterInputs.
+    many (linesOf inLine inputs 5 [] afterInputs)
+    (λ values afterValues. readTable budget room marks (5 + inputs) values afterValues)))))
+
+-- "Refusal 9 comes first"; it is given "at 0".
+unfoldable pub sized : Bool → List ℕ → Told
+sized true text = untold tooLong 0
+sized false text = readLines text
+
+unfoldable pub readJob : List ℕ → Told
+readJob text = sized (ltb mostJobBytes (length text)) text
+
+-- ---- the text of a job
+
+unfoldable pub inputsText : List ℕ → List ℕ
+inputsText [] = []
+inputsText (value ∷ values) = oneText inKey value ++ inputsText values
+
+unfoldable pub tableText : ℕ → List ℕ → List ℕ
+tableText zero words = []
+tableText (suc rows) words = lineText rowKeys (take rowWords words) ++ tableText rows (drop rowWords words)
+
+-- the lines of a job of so many rows
+unfoldable pub jobText : ℕ → Job → List ℕ
+jobText rows job =
+    oneText budgetKey (job .budget)
+    ++ oneText roomKey (job .room)
+    ++ oneText levelsKey (job .marks)
+    ++ oneText inputsKey (length (job .inputs))
+    ++ inputsText (job .inputs)
+    ++ oneText rowsKey rows
+    ++ tableText rows (job .table)

@@ -1,0 +1,6 @@
+pub mod Limits
+pub mod Numbers
+pub mod Lines
+pub mod Jobs
+pub mod Reports
+pub mod Cases

@@ -1,0 +1,1 @@
+// A job's bytes to a job, and an answer to a report's bytes.
