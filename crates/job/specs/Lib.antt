@@ -4,3 +4,4 @@ pub mod Lines
 pub mod Jobs
 pub mod Reports
 pub mod Cases
+pub mod Read
