@@ -5,7 +5,7 @@ use Rattle.rules.specs.Marks.{markedBelow, marked}
 use Rattle.job.specs.Numbers.{isDigit, onByte, digitsOn, begun, numberAt, higher, decimalIn, decimal}
 use Rattle.job.specs.Lines.{afterKey, numberAfter, field, put, onward, fieldsOf, inRange, closed, ended, lineOf, onLine, linesOf, fieldText, fieldsText, lineText, oneText}
 use Rattle.job.specs.Jobs.{one, many, finish, inLine, rowLine, readTable, readLines, sized, readJob}
-use Rattle.job.specs.Reports.{refusalText, recordsText, memoryText, runText, saidText, report}
+use Rattle.job.specs.Reports.{refusalText, recordText, recordsText, memoryText, headText, runText, saidText, report}
 use Rattle.job.specs.Cases.{WholeCase, faultyJobs, FaultyJobs}
 
 -- Whoever unfolds this unfolds what reads a job.
@@ -15,7 +15,7 @@ reading = tt
 
 -- Whoever unfolds this unfolds what writes a report.
 unfoldable writing : Unit {0}
-unfolding higher decimalIn decimal fieldText fieldsText lineText oneText refusalText recordsText memoryText runText saidText report markedBelow marked
+unfolding higher decimalIn decimal fieldText fieldsText lineText oneText refusalText recordText recordsText memoryText headText runText saidText report markedBelow marked
 writing = tt
 
 pub whole-met : WholeCase

@@ -1,3 +1,5 @@
 pub mod Evaluation
 pub mod NumberLaws
 pub mod LineLaws
+pub mod WriteLaws
+pub mod ReportLaws

@@ -5,3 +5,4 @@ pub mod Jobs
 pub mod Reports
 pub mod Cases
 pub mod Read
+pub mod Written

@@ -53,22 +53,30 @@ unfoldable pub refusalText : ℕ → ℕ → List ℕ
 refusalText refusal at = oneText refusedKey refusal ++ oneText atKey at
 
 -- "`out` a record"
+unfoldable pub recordText : Record → List ℕ
+recordText r = lineText (outKey ∷ comma ∷ []) (r .channel ∷ r .value ∷ [])
+
 unfoldable pub recordsText : List Record → List ℕ
 recordsText [] = []
-recordsText (r ∷ records) = lineText (outKey ∷ comma ∷ []) (r .channel ∷ r .value ∷ []) ++ recordsText records
+recordsText (r ∷ records) = recordText r ++ recordsText records
 
 -- the memory's line: its values with commas between them
 unfoldable pub memoryText : List ℕ → List ℕ
 memoryText memory = lineText (memKey ∷ replicate (length memory - 1) comma) memory
 
--- the report of a run: "`levels` is the final mark set, `marked` how many variables it marks, `out` a record."
-unfoldable pub runText : ℕ → ℕ → Whole → List ℕ
-runText number place w =
+-- "`levels` is the final mark set, `marked` how many variables it marks"
+unfoldable pub headText : ℕ → ℕ → ℕ → ℕ → List ℕ
+headText number place steps marks =
     oneText verdictKey number
     ++ oneText placeKey place
-    ++ oneText stepsKey (w .steps)
-    ++ oneText levelsKey (w .marks)
-    ++ oneText markedKey (marked (w .marks))
+    ++ oneText stepsKey steps
+    ++ oneText levelsKey marks
+    ++ oneText markedKey (marked marks)
+
+-- the report of a run, from its verdict and place
+unfoldable pub runText : ℕ → ℕ → Whole → List ℕ
+runText number place w =
+    headText number place (w .steps) (w .marks)
     ++ memoryText (w .memory)
     ++ oneText recordsKey (length (w .records))
     ++ recordsText (w .records)
