@@ -3,3 +3,5 @@ pub mod NumberLaws
 pub mod LineLaws
 pub mod WriteLaws
 pub mod ReportLaws
+pub mod FillLaws
+pub mod JobLaws

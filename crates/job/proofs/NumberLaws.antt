@@ -15,7 +15,7 @@ use Rattle.job.specs.Numbers.{zeroByte, nineByte, isDigit, beyond, Numbe
 pub drop-at : (text : List ℕ) (i : ℕ) → i < length text → drop i text ≡ getD text i 0 ∷ drop (i + 1) text
 drop-at text i h = drop-cons text i 0 h ∙ ap (λ (k : ℕ). getD text i 0 ∷ drop k text) (sym (add-one i))
 
-both-true : (a b : Bool) → (a && b) ≡ true → (a ≡ true) × (b ≡ true)
+pub both-true : (a b : Bool) → (a && b) ≡ true → (a ≡ true) × (b ≡ true)
 both-true true true e = (refl, refl)
 both-true true false e = (refl, e)
 both-true false true e = (e, refl)

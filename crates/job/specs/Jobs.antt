@@ -54,24 +54,31 @@ readTable budget room marks at inputs text =
     (record { budget = budget; room = room; marks = marks; inputs = inputs; table = table })
     end))
 
--- "`budget=`, `room=` (records, 0 to 8192), `levels=`, `inputs=` (0 to 32), that many `in=` lines"; "lines count from 1"
-unfoldable pub readLines : List ℕ → Told
-readLines text =
-    one 1 (lineOf (budgetKey ∷ []) mostWord text)
-    (λ budget afterBudget.
-    one 2 (lineOf (roomKey ∷ []) mostRoom afterBudget)
-    (λ room afterRoom.
-    one 3 (lineOf (levelsKey ∷ []) mostWord afterRoom)
-    (λ marks afterMarks.
-    one 4 (lineOf (inputsKey ∷ []) mostInputs afterMarks)
-    (λ inputs afterInputs.
-    many (linesOf inLine inputs 5 [] afterInputs)
-    (λ values afterValues. readTable budget room marks (5 + inputs) values afterValues)))))
+-- "that many `in=` lines for v0 onward": so many inputs, and the rest of the job after them
+unfoldable pub readInputs : ℕ → ℕ → ℕ → ℕ → List ℕ → Told
+readInputs budget room marks inputs text =
+    many (linesOf inLine inputs 5 [] text) (λ values rest. readTable budget room marks (5 + inputs) values rest)
+
+-- "`inputs=` (0 to 32)"
+unfoldable pub readCount : ℕ → ℕ → ℕ → List ℕ → Told
+readCount budget room marks text = one 4 (lineOf (inputsKey ∷ []) mostInputs text) (readInputs budget room marks)
+
+-- "`levels=`"
+unfoldable pub readLevels : ℕ → ℕ → List ℕ → Told
+readLevels budget room text = one 3 (lineOf (levelsKey ∷ []) mostWord text) (readCount budget room)
+
+-- "`room=` (records, 0 to 8192)"
+unfoldable pub readRoom : ℕ → List ℕ → Told
+readRoom budget text = one 2 (lineOf (roomKey ∷ []) mostRoom text) (readLevels budget)
+
+-- "`budget=`"; "lines count from 1"
+unfoldable pub readBudget : List ℕ → Told
+readBudget text = one 1 (lineOf (budgetKey ∷ []) mostWord text) readRoom
 
 -- "Refusal 9 comes first"; it is given "at 0".
 unfoldable pub sized : Bool → List ℕ → Told
 sized true text = untold tooLong 0
-sized false text = readLines text
+sized false text = readBudget text
 
 unfoldable pub readJob : List ℕ → Told
 readJob text = sized (ltb mostJobBytes (length text)) text

@@ -1,0 +1,137 @@
+-- `job::read::read_row` meets its contract. Assumes nothing.
+use mathlib.Core.List.{[], _∷_}
+use mathlib.Core.Path.{sym, ap, _∙_}
+use lib.ListN.{drop}
+use denote.Ref.{now}
+use Rattle.job.specs.Limits.{mostWord}
+use Rattle.job.specs.Lines.{rowKey, comma, rowKeys}
+use Rattle.job.specs.Jobs.{rowLine}
+use Rattle.job.specs.Read.{fieldSaid}
+use Rattle.job.proofs.LineLaws.{fields-stop, fields-broken, fields-none, fields-more, line-stop, line-go}
+use borrow.Author.Needs.{needs}
+use Rattle.job.proofs.read.read_row.Statement.{statement}
+use Rattle.job.proofs.read.read_row.Tie as tie
+
+slice-aggregate-read-field : tie.Need-slice-aggregate-read-field
+slice-aggregate-read-field c = search needs
+
+read-field-requires : tie.Need-read-field-requires
+read-field-requires c κs = search needs
+
+enum-known-first : tie.Need-enum-known-first
+enum-known-first c = search needs
+
+enum-told : tie.Need-enum-told
+enum-told c = search needs
+
+returns : tie.Need-returns
+unfolding rowLine
+returns c =
+    let args = c .before .before .before .before .before .args in
+    let text = now (args .text) in
+    line-stop rowKeys mostWord (drop (args .at) text) (fields-stop rowKey (comma ∷ comma ∷ comma ∷ []) (drop (args .at) text) (ap (fieldSaid text) (sym (c .enum-told .given .1)) ∙ c .before .before .read-field .ensures))
+
+slice-aggregate-read-field-2 : tie.Need-slice-aggregate-read-field-2
+slice-aggregate-read-field-2 c = search needs
+
+read-field-requires-2 : tie.Need-read-field-requires-2
+read-field-requires-2 c κs = search needs
+
+enum-known-second : tie.Need-enum-known-second
+enum-known-second c = search needs
+
+enum-told-2 : tie.Need-enum-told-2
+enum-told-2 c = search needs
+
+returns-2 : tie.Need-returns-2
+unfolding rowLine
+returns-2 c =
+    let args = c .before .before .before .before .before .before .before .before .before .before .args in
+    let text = now (args .text) in
+    line-stop rowKeys mostWord (drop (args .at) text)
+    (fields-broken rowKey (comma ∷ comma ∷ comma ∷ []) (drop (args .at) text) (drop (c .before .before .before .before .before .first .given .0 .1 .0) text) (c .before .before .before .before .before .first .given .0 .0) (ap (fieldSaid text) (sym (c .before .before .before .before .before .first .given .1)) ∙ c .before .before .before .before .before .before .before .read-field .ensures) (fields-stop comma (comma ∷ comma ∷ []) (drop (c .before .before .before .before .before .first .given .0 .1 .0) text) (ap (fieldSaid text) (sym (c .enum-told2 .given .1)) ∙ c .before .before .read-field2 .ensures)))
+
+slice-aggregate-read-field-3 : tie.Need-slice-aggregate-read-field-3
+slice-aggregate-read-field-3 c = search needs
+
+read-field-requires-3 : tie.Need-read-field-requires-3
+read-field-requires-3 c κs = search needs
+
+enum-known-third : tie.Need-enum-known-third
+enum-known-third c = search needs
+
+enum-told-3 : tie.Need-enum-told-3
+enum-told-3 c = search needs
+
+returns-3 : tie.Need-returns-3
+unfolding rowLine
+returns-3 c =
+    let args = c .before .before .before .before .before .before .before .before .before .before .before .before .before .before .before .args in
+    let text = now (args .text) in
+    line-stop rowKeys mostWord (drop (args .at) text)
+    (fields-broken rowKey (comma ∷ comma ∷ comma ∷ []) (drop (args .at) text) (drop (c .before .before .before .before .before .before .before .before .before .before .first .given .0 .1 .0) text) (c .before .before .before .before .before .before .before .before .before .before .first .given .0 .0) (ap (fieldSaid text) (sym (c .before .before .before .before .before .before .before .before .before .before .first .given .1)) ∙ c .before .before .before .before .before .before .before .before .before .before .before .before .read-field .ensures)
+    (fields-broken comma (comma ∷ comma ∷ []) (drop (c .before .before .before .before .before .before .before .before .before .before .first .given .0 .1 .0) text) (drop (c .before .before .before .before .before .second .given .0 .1 .0) text) (c .before .before .before .before .before .second .given .0 .0) (ap (fieldSaid text) (sym (c .before .before .before .before .before .second .given .1)) ∙ c .before .before .before .before .before .before .before .read-field2 .ensures) (fields-stop comma (comma ∷ []) (drop (c .before .before .before .before .before .second .given .0 .1 .0) text) (ap (fieldSaid text) (sym (c .enum-told3 .given .1)) ∙ c .before .before .read-field3 .ensures))))
+
+slice-aggregate-read-field-4 : tie.Need-slice-aggregate-read-field-4
+slice-aggregate-read-field-4 c = search needs
+
+read-field-requires-4 : tie.Need-read-field-requires-4
+read-field-requires-4 c κs = search needs
+
+enum-known-fourth : tie.Need-enum-known-fourth
+enum-known-fourth c = search needs
+
+enum-told-4 : tie.Need-enum-told-4
+enum-told-4 c = search needs
+
+returns-4 : tie.Need-returns-4
+unfolding rowLine
+returns-4 c =
+    let args = c .before .before .before .before .before .before .before .before .before .before .before .before .before .before .before .before .before .before .before .before .args in
+    let text = now (args .text) in
+    line-stop rowKeys mostWord (drop (args .at) text)
+    (fields-broken rowKey (comma ∷ comma ∷ comma ∷ []) (drop (args .at) text) (drop (c .before .before .before .before .before .before .before .before .before .before .before .before .before .before .before .first .given .0 .1 .0) text) (c .before .before .before .before .before .before .before .before .before .before .before .before .before .before .before .first .given .0 .0) (ap (fieldSaid text) (sym (c .before .before .before .before .before .before .before .before .before .before .before .before .before .before .before .first .given .1)) ∙ c .before .before .before .before .before .before .before .before .before .before .before .before .before .before .before .before .before .read-field .ensures)
+    (fields-broken comma (comma ∷ comma ∷ []) (drop (c .before .before .before .before .before .before .before .before .before .before .before .before .before .before .before .first .given .0 .1 .0) text) (drop (c .before .before .before .before .before .before .before .before .before .before .second .given .0 .1 .0) text) (c .before .before .before .before .before .before .before .before .before .before .second .given .0 .0) (ap (fieldSaid text) (sym (c .before .before .before .before .before .before .before .before .before .before .second .given .1)) ∙ c .before .before .before .before .before .before .before .before .before .before .before .before .read-field2 .ensures)
+    (fields-broken comma (comma ∷ []) (drop (c .before .before .before .before .before .before .before .before .before .before .second .given .0 .1 .0) text) (drop (c .before .before .before .before .before .third .given .0 .1 .0) text) (c .before .before .before .before .before .third .given .0 .0) (ap (fieldSaid text) (sym (c .before .before .before .before .before .third .given .1)) ∙ c .before .before .before .before .before .before .before .read-field3 .ensures) (fields-stop comma [] (drop (c .before .before .before .before .before .third .given .0 .1 .0) text) (ap (fieldSaid text) (sym (c .enum-told4 .given .1)) ∙ c .before .before .read-field4 .ensures)))))
+
+close-row-requires : tie.Need-close-row-requires
+close-row-requires c κs = search needs
+
+returns-5 : tie.Need-returns-5
+unfolding rowLine
+returns-5 c =
+    let args = c .before .before .before .before .before .before .before .before .before .before .before .before .before .before .before .before .before .before .before .before .before .before .args in
+    let text = now (args .text) in
+    c .close-row .ensures
+    ∙ line-go rowKeys mostWord (drop (args .at) text)
+    (fields-more rowKey (comma ∷ comma ∷ comma ∷ []) (drop (args .at) text) (drop (c .before .before .before .before .before .before .before .before .before .before .before .before .before .before .before .before .before .first .given .0 .1 .0) text) (c .before .before .before .before .before .before .before .before .before .before .before .before .before .before .before .before .before .first .given .0 .0) ((c .before .before .before .before .before .before .before .before .before .before .before .before .second .given .0 .0) ∷ (c .before .before .before .before .before .before .before .third .given .0 .0) ∷ (c .before .before .fourth .given .0 .0) ∷ []) (drop (c .before .before .fourth .given .0 .1 .0) text) (ap (fieldSaid text) (sym (c .before .before .before .before .before .before .before .before .before .before .before .before .before .before .before .before .before .first .given .1)) ∙ c .before .before .before .before .before .before .before .before .before .before .before .before .before .before .before .before .before .before .before .read-field .ensures)
+    (fields-more comma (comma ∷ comma ∷ []) (drop (c .before .before .before .before .before .before .before .before .before .before .before .before .before .before .before .before .before .first .given .0 .1 .0) text) (drop (c .before .before .before .before .before .before .before .before .before .before .before .before .second .given .0 .1 .0) text) (c .before .before .before .before .before .before .before .before .before .before .before .before .second .given .0 .0) ((c .before .before .before .before .before .before .before .third .given .0 .0) ∷ (c .before .before .fourth .given .0 .0) ∷ []) (drop (c .before .before .fourth .given .0 .1 .0) text) (ap (fieldSaid text) (sym (c .before .before .before .before .before .before .before .before .before .before .before .before .second .given .1)) ∙ c .before .before .before .before .before .before .before .before .before .before .before .before .before .before .read-field2 .ensures)
+    (fields-more comma (comma ∷ []) (drop (c .before .before .before .before .before .before .before .before .before .before .before .before .second .given .0 .1 .0) text) (drop (c .before .before .before .before .before .before .before .third .given .0 .1 .0) text) (c .before .before .before .before .before .before .before .third .given .0 .0) ((c .before .before .fourth .given .0 .0) ∷ []) (drop (c .before .before .fourth .given .0 .1 .0) text) (ap (fieldSaid text) (sym (c .before .before .before .before .before .before .before .third .given .1)) ∙ c .before .before .before .before .before .before .before .before .before .read-field3 .ensures)
+    (fields-more comma [] (drop (c .before .before .before .before .before .before .before .third .given .0 .1 .0) text) (drop (c .before .before .fourth .given .0 .1 .0) text) (c .before .before .fourth .given .0 .0) [] (drop (c .before .before .fourth .given .0 .1 .0) text) (ap (fieldSaid text) (sym (c .before .before .fourth .given .1)) ∙ c .before .before .before .before .read-field4 .ensures) (fields-none (drop (c .before .before .fourth .given .0 .1 .0) text))))))
+
+pub read-row-spec : {M : Type 1} → statement M
+read-row-spec =
+    tie.close
+    (tie.spec
+    slice-aggregate-read-field
+    read-field-requires
+    enum-known-first
+    enum-told
+    returns
+    slice-aggregate-read-field-2
+    read-field-requires-2
+    enum-known-second
+    enum-told-2
+    returns-2
+    slice-aggregate-read-field-3
+    read-field-requires-3
+    enum-known-third
+    enum-told-3
+    returns-3
+    slice-aggregate-read-field-4
+    read-field-requires-4
+    enum-known-fourth
+    enum-told-4
+    returns-4
+    close-row-requires
+    returns-5)
