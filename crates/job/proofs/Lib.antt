@@ -5,3 +5,4 @@ pub mod WriteLaws
 pub mod ReportLaws
 pub mod FillLaws
 pub mod JobLaws
+pub mod RoundTrip

@@ -1,12 +1,13 @@
 -- Document 01, "Job and report": what a job's text reads as, and the text of a job.
-use Prim.Native.Nat.{ℕ, zero, suc, _+_, _-_, _*_}
+use Prim.Native.Nat.{ℕ, zero, suc, _+_, _*_, _≤_}
 use mathlib.Core.Bool.{Bool, true, false}
+use mathlib.Core.Path.{_≡_}
 use mathlib.Core.List.{List, [], _∷_, _++_}
 use lib.Dec.{ltb}
 use lib.ListN.{length, getD, take, drop, replicate}
 use Rattle.rules.specs.Limits.{width, rowWords, mostRows, mostJobBytes}
 use Rattle.job.specs.Limits.{mostWord, mostRoom, mostInputs, tableWords, lacksForm, tooLong}
-use Rattle.job.specs.Lines.{budgetKey, roomKey, levelsKey, inputsKey, inKey, rowsKey, rowKeys, Line, line, faulty, lineOf, Lines, lines, broken, linesOf, lineText, oneText}
+use Rattle.job.specs.Lines.{budgetKey, roomKey, levelsKey, inputsKey, inKey, rowsKey, rowKeys, Line, line, faulty, inRange, lineOf, Lines, lines, broken, linesOf, lineText, oneText}
 
 -- What a job says: budget, room and mark set, the values of v0 onward, and the words of the table.
 pub record Job : Type 0 where
@@ -93,13 +94,26 @@ unfoldable pub tableText : ℕ → List ℕ → List ℕ
 tableText zero words = []
 tableText (suc rows) words = lineText rowKeys (take rowWords words) ++ tableText rows (drop rowWords words)
 
--- the lines of a job of so many rows
+-- the lines of a job of so many rows, in the document's order
 unfoldable pub jobText : ℕ → Job → List ℕ
 jobText rows job =
     oneText budgetKey (job .budget)
-    ++ oneText roomKey (job .room)
-    ++ oneText levelsKey (job .marks)
-    ++ oneText inputsKey (length (job .inputs))
-    ++ inputsText (job .inputs)
-    ++ oneText rowsKey rows
-    ++ tableText rows (job .table)
+    ++ (oneText roomKey (job .room)
+    ++ (oneText levelsKey (job .marks)
+    ++ (oneText inputsKey (length (job .inputs))
+    ++ (inputsText (job .inputs) ++ (oneText rowsKey rows ++ tableText rows (job .table))))))
+
+-- a job whose numbers are all in range
+pub record Good (rows : ℕ) (job : Job) : Type 0 where
+  pub budget : job .budget ≤ mostWord
+  pub room : job .room ≤ mostRoom
+  pub marks : job .marks ≤ mostWord
+  pub inputs : length (job .inputs) ≤ mostInputs
+  pub values : inRange mostWord (job .inputs) ≡ true
+  pub count : rows ≤ mostRows
+  pub table : length (job .table) ≡ rowWords * rows
+  pub words : inRange mostWord (job .table) ≡ true
+
+-- The claim: the text of every such job reads as that job.
+abbrev pub RoundTrip : Type 0
+RoundTrip = (rows : ℕ) (job : Job) → Good rows job → readJob (jobText rows job) ≡ told job
