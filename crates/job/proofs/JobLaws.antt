@@ -1,18 +1,18 @@
 -- Laws of a job that is read line by line: what each faulty line refuses, and what a whole job leaves.
 use Prim.Native.Nat.{ℕ, zero, suc, _+_, _-_, _*_, _/_, _≤_, _<_}
 use native.Mathlib.Omega.{arith}
-use mathlib.Core.Bool.{Bool, true, false, _&&_}
+use mathlib.Core.Bool.{Bool, true, false}
 use mathlib.Core.List.{List, [], _∷_, _++_}
 use mathlib.Core.Path.{_≡_, refl, sym, ap, ap₂, _∙_}
-use lib.Dec.{ltb, leb}
-use lib.ListN.{length, getD, take, drop, replicate, take-append-drop, drop-of-length-le, length-drop}
+use lib.Dec.{leb}
+use lib.ListN.{length, take, drop, replicate, take-append-drop, drop-of-length-le}
 use lib.Seq.{length-take-le}
 use borrow.Author.Tests.{leb-true, lt-ltb, le-ltb}
 use Rattle.rules.specs.declared.Memory.{Memory}
 use Rattle.rules.specs.Limits.{width, rowWords, mostRows, mostJobBytes}
 use Rattle.job.specs.declared.read.Read.{Read}
 use Rattle.job.specs.declared.read.Reading.{Reading}
-use Rattle.job.specs.Limits.{tableWords, lacksForm, tooLong}
+use Rattle.job.specs.Limits.{tableWords, lacksForm, tooLong, firstInput}
 use Rattle.job.specs.Lines.{After, absent, after, afterKey, lineEnd, rowsKey, Fields, noFields, fields, fieldsOf, Line, line, faulty, inRange, closed, ended, lineOf, Lines, lines, broken, linesOf}
 use Rattle.job.specs.Jobs.{Job, Told, told, untold, one, many, finish, inLine, rowLine, readTable, readInputs, readBudget, sized, readJob}
 use Rattle.job.specs.Read.{filled, reading}
@@ -91,15 +91,15 @@ module _ (budget room marks at : ℕ) (inputs text : List ℕ) where
 -- ---- the inputs
 
 module _ (budget room marks inputs : ℕ) (text : List ℕ) where
-  pub inputs-broken : (refusal bad : ℕ) → broken refusal bad ≡ linesOf inLine inputs 5 [] text
+  pub inputs-broken : (refusal bad : ℕ) → broken refusal bad ≡ linesOf inLine inputs firstInput [] text
       → untold refusal bad ≡ readInputs budget room marks inputs text
   unfolding readInputs many
-  inputs-broken refusal bad e = ap (λ (l : Lines). many l (readTable budget room marks (5 + inputs))) e
+  inputs-broken refusal bad e = ap (λ (l : Lines). many l (readTable budget room marks (firstInput + inputs))) e
 
-  pub inputs-told : (values rest : List ℕ) → lines values rest ≡ linesOf inLine inputs 5 [] text
-      → readTable budget room marks (5 + inputs) values rest ≡ readInputs budget room marks inputs text
+  pub inputs-told : (values rest : List ℕ) → lines values rest ≡ linesOf inLine inputs firstInput [] text
+      → readTable budget room marks (firstInput + inputs) values rest ≡ readInputs budget room marks inputs text
   unfolding readInputs many
-  inputs-told values rest e = ap (λ (l : Lines). many l (readTable budget room marks (5 + inputs))) e
+  inputs-told values rest e = ap (λ (l : Lines). many l (readTable budget room marks (firstInput + inputs))) e
 
 -- ---- the size of the text
 

@@ -1,15 +1,14 @@
 -- Laws of lines that are read: how a key is matched byte by byte.
-use Prim.Native.Nat.{ℕ, zero, suc, _+_, _-_, _*_, _≤_, _<_}
-use native.Mathlib.Omega.{arith}
+use Prim.Native.Nat.{ℕ, _+_, _≤_, _<_}
 use mathlib.Core.Bool.{Bool, true, false, cond, _&&_}
 use mathlib.Core.List.{List, [], _∷_, _++_}
 use mathlib.Core.Path.{_≡_, refl, sym, ap, ap₂, _∙_}
 use lib.Dec.{leb, eqb}
 use lib.ListN.{length, getD, drop, drop-of-length-le}
 use borrow.Author.Tests.{eq-eqb, ne-eqb, le-leb, lt-leb}
-use Rattle.job.specs.Lines.{lineEnd, After, absent, after, afterKey, numberAfter, field, Fields, noFields, fields, put, onward, fieldsOf, Line, line, faulty, inRange, closed, ended, lineOf}
+use Rattle.job.specs.Lines.{lineEnd, After, absent, after, afterKey, numberAfter, field, Fields, noFields, fields, put, onward, fieldsOf, line, faulty, inRange, closed, ended, lineOf}
 use Rattle.job.specs.Limits.{lacksForm, outOfRange}
-use Rattle.job.specs.Numbers.{Number, noNumber, number, numberAt}
+use Rattle.job.specs.Numbers.{noNumber, number, numberAt}
 use Rattle.job.proofs.NumberLaws.{drop-at}
 
 -- ---- the key from its byte j on, at the text from its place i on
@@ -56,19 +55,19 @@ pub fields-stop : (key : List ℕ) (keys : List (List ℕ)) (text : List ℕ) �
 unfolding fieldsOf onward
 fields-stop key keys text e = ap (onward (fieldsOf keys)) e
 
-pub fields-broken : (key : List ℕ) (keys : List (List ℕ)) (text rest : List ℕ) (value : ℕ) → number value rest ≡ field key text
+pub fields-broken : (key : List ℕ) (keys : List (List ℕ)) (text : List ℕ) {rest : List ℕ} {value : ℕ} → number value rest ≡ field key text
     → noFields ≡ fieldsOf keys rest → noFields ≡ fieldsOf (key ∷ keys) text
 unfolding fieldsOf onward put
-fields-broken key keys text rest value e f = ap (put value) f ∙ ap (onward (fieldsOf keys)) e
+fields-broken key keys text {rest} {value} e f = ap (put value) f ∙ ap (onward (fieldsOf keys)) e
 
 pub fields-none : (text : List ℕ) → fields [] text ≡ fieldsOf [] text
 unfolding fieldsOf
 fields-none text = refl
 
-pub fields-more : (key : List ℕ) (keys : List (List ℕ)) (text rest : List ℕ) (value : ℕ) (values end : List ℕ)
+pub fields-more : (key : List ℕ) (keys : List (List ℕ)) (text : List ℕ) {rest : List ℕ} {value : ℕ} {values end : List ℕ}
     → number value rest ≡ field key text → fields values end ≡ fieldsOf keys rest → fields (value ∷ values) end ≡ fieldsOf (key ∷ keys) text
 unfolding fieldsOf onward put
-fields-more key keys text rest value values end e f = ap (put value) f ∙ ap (onward (fieldsOf keys)) e
+fields-more key keys text {rest} {value} {values} {end} e f = ap (put value) f ∙ ap (onward (fieldsOf keys)) e
 
 -- ---- a line
 
@@ -87,7 +86,7 @@ line-none key most text e = line-stop (key ∷ []) most text (fields-stop key []
 pub line-number : (key : List ℕ) (most : ℕ) (text rest : List ℕ) (value : ℕ) → number value rest ≡ field key text
     → ended most (fields (value ∷ []) rest) ≡ lineOf (key ∷ []) most text
 line-number key most text rest value e =
-    line-go (key ∷ []) most text (fields-more key [] text rest value [] rest e (fields-none rest))
+    line-go (key ∷ []) most text (fields-more key [] text e (fields-none rest))
 
 -- ---- the end of a line
 

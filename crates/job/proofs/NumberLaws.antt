@@ -1,15 +1,15 @@
 -- Laws of numbers that are read: what a digit is, and how the digits of a text go on, stop and end.
-use Prim.Native.Nat.{ℕ, zero, suc, _+_, _-_, _*_, _≤_, _<_, min}
+use Prim.Native.Nat.{ℕ, _+_, _-_, _*_, _≤_, _<_, min}
 use native.Mathlib.Numerals.{add-one}
 use native.Mathlib.Omega.{arith}
-use mathlib.Core.Bool.{Bool, true, false, _&&_, true≢false}
+use mathlib.Core.Bool.{Bool, true, false, _&&_}
 use mathlib.Core.List.{List, [], _∷_}
 use mathlib.Core.Path.{_≡_, refl, sym, ap, ap₂, _∙_}
 use lib.Dec.{leb, eqb}
 use lib.ListN.{length, getD, drop, drop-of-length-le}
 use lib.Seq.{drop-cons}
 use borrow.Author.Tests.{leb-true, le-leb, lt-leb, eq-eqb, ne-eqb}
-use Rattle.job.specs.Numbers.{zeroByte, nineByte, isDigit, beyond, Number, noNumber, number, onByte, digitsOn, begun, numberAt}
+use Rattle.job.specs.Numbers.{zeroByte, nineByte, isDigit, beyond, noNumber, number, onByte, digitsOn, begun, numberAt}
 
 -- the byte at a place, and the text from there on
 pub drop-at : (text : List ℕ) (i : ℕ) → i < length text → drop i text ≡ getD text i 0 ∷ drop (i + 1) text

@@ -4,14 +4,14 @@ use native.Mathlib.Omega.{arith}
 use mathlib.Core.Bool.{Bool, true, false, cond, _&&_}
 use mathlib.Core.List.{List, [], _∷_, _++_, append-nil, append-assoc}
 use mathlib.Core.Path.{_≡_, refl, sym, ap, ap₂, _∙_}
-use lib.Dec.{leb, eqb, ltb}
-use lib.ListN.{length, take, drop, replicate, length-append}
-use borrow.Author.Tests.{leb-true, le-leb, lt-leb, eq-eqb, ne-eqb, ltb-true, ltb-false}
+use lib.Dec.{leb, ltb}
+use lib.ListN.{length, replicate, length-append}
+use borrow.Author.Tests.{leb-true, le-leb, eq-eqb, ne-eqb, ltb-true, ltb-false}
 use Rattle.rules.specs.Limits.{rowWords, mostRows, mostJobBytes}
-use Rattle.job.specs.Limits.{mostWord, mostRoom, mostInputs}
-use Rattle.job.specs.Numbers.{zeroByte, nineByte, isDigit, beyond, Number, number, onByte, digitsOn, begun, numberAt, decimal}
-use Rattle.job.specs.Lines.{lineEnd, comma, budgetKey, roomKey, levelsKey, inputsKey, inKey, rowsKey, rowKey, rowKeys, After, after, absent, afterKey, numberAfter, field, Fields, fields, put, onward, fieldsOf, Line, line, inRange, closed, ended, lineOf, Lines, lines, onLine, linesOf, fieldText, fieldsText, lineText, oneText}
-use Rattle.job.specs.Jobs.{Job, Told, told, one, many, finish, inLine, rowLine, readTable, readInputs, readCount, readLevels, readRoom, readBudget, readJob, inputsText, tableText, jobText, Good, RoundTrip}
+use Rattle.job.specs.Limits.{mostWord, mostRoom, mostInputs, firstInput}
+use Rattle.job.specs.Numbers.{zeroByte, nineByte, isDigit, beyond, number, onByte, digitsOn, begun, numberAt, decimal}
+use Rattle.job.specs.Lines.{lineEnd, comma, budgetKey, roomKey, levelsKey, inputsKey, inKey, rowsKey, rowKey, rowKeys, After, after, absent, afterKey, numberAfter, field, fields, put, onward, fieldsOf, line, inRange, closed, ended, lineOf, Lines, lines, onLine, linesOf, fieldText, fieldsText, lineText, oneText}
+use Rattle.job.specs.Jobs.{Job, Told, told, one, many, finish, inLine, rowLine, readTable, readInputs, readCount, readLevels, readRoom, readBudget, inputsText, tableText, jobText, Good, RoundTrip}
 use Rattle.job.specs.Written.{mostDigits}
 use Rattle.job.proofs.NumberLaws.{both-true, digit-low}
 use Rattle.job.proofs.WriteLaws.{decimal-small, decimal-more, decimal-few}
@@ -260,7 +260,7 @@ module _ (rows : ℕ) (job : Job) (good : Good rows job) where
       let t = table-few rows (job .table) (good .table) (good .words) in
       omega (arith, good .inputs, good .count)
 
-  table-read : readTable (job .budget) (job .room) (job .marks) (5 + length (job .inputs)) (job .inputs) tableLines ≡ told job
+  table-read : readTable (job .budget) (job .room) (job .marks) (firstInput + length (job .inputs)) (job .inputs) tableLines ≡ told job
   unfolding readTable tableLines many finish
   table-read =
       one-back at rowsKey mostRows rows (tableText rows (job .table)) (λ n text. many (linesOf rowLine n (at + 1) [] text) (ending n)) (omega arith) (good .count)
@@ -268,7 +268,7 @@ module _ (rows : ℕ) (job : Job) (good : Good rows job) where
       ∙ ap (λ (l : Lines). many l (ending rows)) (table-back rows (at + 1) [] (job .table) [] (good .table) (good .words))
     where
       at : ℕ
-      at = 5 + length (job .inputs)
+      at = firstInput + length (job .inputs)
 
       ending : ℕ → List ℕ → List ℕ → Told
       ending n table end =
@@ -279,8 +279,8 @@ module _ (rows : ℕ) (job : Job) (good : Good rows job) where
   inputs-read : readInputs (job .budget) (job .room) (job .marks) (length (job .inputs)) inputLines ≡ told job
   unfolding readInputs inputLines many
   inputs-read =
-      ap (λ (l : Lines). many l (readTable (job .budget) (job .room) (job .marks) (5 + length (job .inputs))))
-      (inputs-back (job .inputs) 5 [] tableLines (good .values))
+      ap (λ (l : Lines). many l (readTable (job .budget) (job .room) (job .marks) (firstInput + length (job .inputs))))
+      (inputs-back (job .inputs) firstInput [] tableLines (good .values))
       ∙ table-read
 
   job-read : readBudget (jobText rows job) ≡ told job

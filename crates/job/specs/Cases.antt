@@ -1,6 +1,6 @@
 -- Document 01's whole case, and a case for each way in which a job is refused.
 use Prim.Native.Nat.{ℕ, _+_}
-use mathlib.Core.List.{List, [], _∷_, _++_, map}
+use mathlib.Core.List.{List, [], _∷_, map}
 use mathlib.Core.Path.{_≡_}
 use lib.ListN.{replicate}
 use Rattle.rules.specs.Answers.{answer}

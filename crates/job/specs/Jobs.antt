@@ -4,9 +4,9 @@ use mathlib.Core.Bool.{Bool, true, false}
 use mathlib.Core.Path.{_≡_}
 use mathlib.Core.List.{List, [], _∷_, _++_}
 use lib.Dec.{ltb}
-use lib.ListN.{length, getD, take, drop, replicate}
-use Rattle.rules.specs.Limits.{width, rowWords, mostRows, mostJobBytes}
-use Rattle.job.specs.Limits.{mostWord, mostRoom, mostInputs, tableWords, lacksForm, tooLong}
+use lib.ListN.{length, getD, take, drop}
+use Rattle.rules.specs.Limits.{rowWords, mostRows, mostJobBytes}
+use Rattle.job.specs.Limits.{mostWord, mostRoom, mostInputs, lacksForm, tooLong, firstInput}
 use Rattle.job.specs.Lines.{budgetKey, roomKey, levelsKey, inputsKey, inKey, rowsKey, rowKeys, Line, line, faulty, inRange, lineOf, Lines, lines, broken, linesOf, lineText, oneText}
 
 -- What a job says: budget, room and mark set, the values of v0 onward, and the words of the table.
@@ -58,7 +58,7 @@ readTable budget room marks at inputs text =
 -- "that many `in=` lines for v0 onward": so many inputs, and the rest of the job after them
 unfoldable pub readInputs : ℕ → ℕ → ℕ → ℕ → List ℕ → Told
 readInputs budget room marks inputs text =
-    many (linesOf inLine inputs 5 [] text) (λ values rest. readTable budget room marks (5 + inputs) values rest)
+    many (linesOf inLine inputs firstInput [] text) (λ values rest. readTable budget room marks (firstInput + inputs) values rest)
 
 -- "`inputs=` (0 to 32)"
 unfoldable pub readCount : ℕ → ℕ → ℕ → List ℕ → Told

@@ -1,5 +1,5 @@
 -- The numbers of document 01's jobs and reports, each once, under a name.
-use Prim.Native.Nat.{ℕ, _+_, _*_}
+use Prim.Native.Nat.{ℕ, _*_}
 use Rattle.rules.specs.Limits.{width, rowWords, mostRows}
 
 -- "one over 4,294,967,295 is 8"
@@ -13,6 +13,10 @@ mostRoom = 8192
 -- "`inputs=` (0 to 32)"
 abbrev pub mostInputs : ℕ
 mostInputs = width
+
+-- the line of the first `in=`, after four others; "lines count from 1"
+abbrev pub firstInput : ℕ
+firstInput = 5
 
 -- the words of "`rows=` (0 to 512)"
 abbrev pub tableWords : ℕ

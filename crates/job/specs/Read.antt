@@ -3,7 +3,6 @@ use Prim.Native.Nat.{ℕ, _-_, _/_}
 use mathlib.Core.Path.{_≡_}
 use mathlib.Core.List.{List, [], _∷_, _++_}
 use lib.ListN.{length, take, drop, replicate}
-use Rattle.rules.specs.declared.Memory.{Memory}
 use Rattle.rules.specs.Limits.{width, rowWords}
 use Rattle.job.specs.declared.read.Key.{Key}
 use Rattle.job.specs.declared.read.Field.{Field}

@@ -1,8 +1,7 @@
 -- Document 01, "Job and report": the bytes of a report.
-use Prim.Native.Nat.{ℕ, zero, suc, _-_}
+use Prim.Native.Nat.{ℕ, _-_}
 use mathlib.Core.List.{List, [], _∷_, _++_}
 use lib.ListN.{length, replicate}
-use Rattle.rules.specs.Limits.{width}
 use Rattle.rules.specs.Marks.{marked}
 use Rattle.rules.specs.Running.{Record}
 use Rattle.rules.specs.Answers.{Said, accepted, refused, verdict, pass, fail, Whole}

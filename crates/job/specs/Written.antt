@@ -10,7 +10,7 @@ use Rattle.rules.specs.declared.Ended.{Ended}
 use Rattle.rules.specs.declared.Answer.{Answer}
 use Rattle.rules.specs.Limits.{width, recordWords}
 use Rattle.rules.specs.Running.{Record}
-use Rattle.rules.specs.Answers.{Said, saidOfRun, Whole}
+use Rattle.rules.specs.Answers.{saidOfRun, Whole}
 use Rattle.job.specs.declared.write.Wrote.{Wrote}
 use Rattle.job.specs.Lines.{comma, lineEnd, levelsKey}
 use Rattle.job.specs.Reports.{refusedKey, atKey, verdictKey, placeKey, stepsKey, markedKey, memKey, recordsKey, outKey, refusalText, report}

@@ -4,11 +4,11 @@ use rules::Memory;
 use rules::VARIABLES;
 ghost use mathlib.Core.Path.{_≡_};
 ghost use mathlib.Core.Bool.{true};
-ghost use mathlib.Core.List.{List, [], _∷_};
+ghost use mathlib.Core.List.{[], _∷_};
 ghost use Prim.Native.Nat.{_+_, _-_, _*_, _≤_, _<_, min};
 ghost use lib.ListN.{length, take, drop};
 ghost use Rattle.rules.specs.Limits.{width, rowWords, mostRows};
-ghost use Rattle.job.specs.Limits.{mostWord, mostInputs, tableWords};
+ghost use Rattle.job.specs.Limits.{mostWord, tableWords, firstInput};
 ghost use Rattle.job.specs.Numbers.{zeroByte, beyond, isDigit, digitsOn, numberAt};
 ghost use Rattle.job.specs.Lines.{afterKey, field, fields, ended, lineOf, linesOf};
 ghost use Rattle.job.specs.Jobs.{untold, inLine, rowLine, readTable, readInputs, readCount, readLevels, readRoom, readJob};
@@ -25,7 +25,11 @@ const MOST_INPUTS: u64 = 32;
 
 const MOST_ROWS: u64 = 512;
 
+const ROW_WORDS: usize = 4;
+
 const TABLE_WORDS: usize = 2048;
+
+const FIRST_INPUT: u32 = 5;
 
 const LACKS_FORM: u32 = 7;
 
@@ -34,25 +38,25 @@ const OUT_OF_RANGE: u32 = 8;
 const TOO_LONG: u32 = 9;
 
 // Whether a key stands at a place, and the place after it.
-pub enum Key {
+enum Key {
     Absent,
     Next(usize),
 }
 
 // The number of a field, and the place after it; a number over 4,294,967,295 is 4,294,967,296.
-pub enum Field {
+enum Field {
     Nothing,
     Number { value: u64, next: usize },
 }
 
 // The number of a line of one number, and the place after the line; or the line's refusal.
-pub enum Line {
+enum Line {
     Number { value: u32, next: usize },
     Faulty(u32),
 }
 
 // The four words of a row's line.
-pub enum RowLine {
+enum RowLine {
     Row {
         k: u32,
         p: u32,
@@ -64,7 +68,7 @@ pub enum RowLine {
 }
 
 // The place after some lines; or a refusal and its line.
-pub enum Lines {
+enum Lines {
     Next(usize),
     Faulty { number: u32, line: u32 },
 }
@@ -94,7 +98,7 @@ pub struct Reading {
 fn is_digit(byte: u8) -> bool
     ensures { λ r. ⌜ r ≡ isDigit byte ⌝ }
 {
-    48 <= byte && byte <= 57
+    b'0' <= byte && byte <= b'9'
 }
 
 // The value of some digits with one digit more.
@@ -102,7 +106,7 @@ fn grown(value: u64, byte: u8) -> u64
     requires { ⌜ (value ≤ beyond) × (isDigit byte ≡ true) ⌝ }
     ensures { λ r. ⌜ r ≡ min (value * 10 + (byte - zeroByte)) beyond ⌝ }
 {
-    let more = value * 10 + (byte - 48) as u64;
+    let more = value * 10 + (byte - b'0') as u64;
     if more <= MOST_WORD {
         more
     } else {
@@ -137,7 +141,7 @@ fn number_at(text: &[u8], at: usize) -> Field
         return Field::Nothing;
     }
     let byte = text[at];
-    if byte == 48 {
+    if byte == b'0' {
         return Field::Number {
             value: 0,
             next: at + 1,
@@ -289,7 +293,7 @@ fn read_row(text: &[u8], at: usize) -> RowLine
 // Reads so many inputs' lines, from line 5 on, into the memory's words.
 fn fill_inputs(text: &[u8], from: usize, count: u32, words: &mut [u32; VARIABLES]) -> Lines
     requires { ⌜ (length (now words) ≡ width) × (count ≤ width) ⌝ }
-    ensures { λ r. ⌜ LinesRead (now (text .entry)) count (now (words .entry)) (now (words .exit)) r (linesOf inLine count 5 [] (drop from (now (text .entry)))) ⌝ }
+    ensures { λ r. ⌜ LinesRead (now (text .entry)) count (now (words .entry)) (now (words .exit)) r (linesOf inLine count firstInput [] (drop from (now (text .entry)))) ⌝ }
 {
     let mut at = from;
     let mut i: u32 = 0;
@@ -331,7 +335,7 @@ fn fill_rows(
     line: u32,
     words: &mut [u32; TABLE_WORDS],
 ) -> Lines
-    requires { ⌜ (length (now words) ≡ tableWords) × (count ≤ mostRows) × (line ≤ 6 + width) ⌝ }
+    requires { ⌜ (length (now words) ≡ tableWords) × (count ≤ mostRows) × (line ≤ firstInput + 1 + width) ⌝ }
     ensures { λ r. ⌜ LinesRead (now (text .entry)) (rowWords * count) (now (words .entry)) (now (words .exit)) r (linesOf rowLine count line [] (drop from (now (text .entry)))) ⌝ }
 {
     let mut at = from;
@@ -340,7 +344,7 @@ fn fill_rows(
         let row = read_row(text, at);
         match row {
             RowLine::Row { k, p, q, r, next } => {
-                store_row(words, 4 * i as usize, k, p, q, r);
+                store_row(words, ROW_WORDS * i as usize, k, p, q, r);
                 at = next;
                 i += 1;
             }
@@ -379,11 +383,11 @@ fn read_table(
     memory: Memory,
 ) -> Reading
     requires { ⌜ (inputs ≤ width) × (memory .words ≡ filled width (take inputs (memory .words))) ⌝ }
-    ensures { λ r. ⌜ r ≡ reading (readTable budget room marks (5 + inputs) (take inputs (memory .words)) (drop at (now (text .entry)))) ⌝ }
+    ensures { λ r. ⌜ r ≡ reading (readTable budget room marks (firstInput + inputs) (take inputs (memory .words)) (drop at (now (text .entry)))) ⌝ }
 {
     let count = read_line(text, at, b"rows=", MOST_ROWS);
     match count {
-        Line::Faulty(number) => refused(number, 5 + inputs),
+        Line::Faulty(number) => refused(number, FIRST_INPUT + inputs),
         Line::Number { value, next } => {
             let mut table = [0; TABLE_WORDS];
             let rows = fill_rows(text, next, value, 6 + inputs, &mut table);

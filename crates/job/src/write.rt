@@ -3,7 +3,6 @@ use rules::Answer;
 use rules::Ended;
 use rules::VARIABLES;
 ghost use mathlib.Core.Path.{_≡_};
-ghost use mathlib.Core.List.{_++_};
 ghost use Prim.Native.Nat.{_+_, _-_, _*_, _≤_, _<_};
 ghost use lib.ListN.{length, drop, replicate};
 ghost use Rattle.rules.specs.Limits.{width, recordWords};
@@ -19,6 +18,9 @@ const RUN_BYTES: usize = 464;
 
 const RECORD_BYTES: usize = 26;
 
+// The words of a record.
+const RECORD_WORDS: usize = 2;
+
 // How a report was written: so many bytes; not, for the buffer is too short for the longest such report; or not, for the trace
 // lacks records that the answer counts.
 pub enum Wrote {
@@ -33,11 +35,11 @@ fn put_number(out: &mut [u8], at: usize, n: u32) -> usize
     ensures { λ r. ⌜ Placed (now (out .entry)) at (decimal n) mostDigits r (now (out .exit)) ⌝ }
 {
     if n < 10 {
-        out[at] = 48 + n as u8;
+        out[at] = b'0' + n as u8;
         return at + 1;
     }
     let last = put_number(out, at, n / 10);
-    out[last] = 48 + (n % 10) as u8;
+    out[last] = b'0' + (n % 10) as u8;
     last + 1
 }
 
@@ -136,7 +138,12 @@ fn put_records(out: &mut [u8], from: usize, trace: &[u32], records: usize) -> us
     let mut at = from;
     let mut i = 0;
     while i < records {
-        at = put_record(out, at, trace[2 * i], trace[2 * i + 1]);
+        at = put_record(
+            out,
+            at,
+            trace[RECORD_WORDS * i],
+            trace[RECORD_WORDS * i + 1],
+        );
         i += 1;
     }
     at
@@ -171,7 +178,7 @@ fn write_run(verdict: u32, place: u32, answer: Answer, trace: &[u32], out: &mut 
     ensures { λ r. ⌜ (record { wrote = r; out = now (out .exit) }) ≡ runWritten (answer .records) (runText verdict place (wholeOf answer (now (trace .entry)))) (now (trace .entry)) (now (out .entry)) ⌝ }
 {
     let records = answer.records as usize;
-    if trace.len() < 2 * records {
+    if trace.len() < RECORD_WORDS * records {
         return Wrote::Lacking;
     }
     if out.len() < RUN_BYTES + RECORD_BYTES * records {

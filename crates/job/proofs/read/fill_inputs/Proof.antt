@@ -3,6 +3,7 @@ use Prim.Native.Nat.{_-_}
 use mathlib.Core.List.{[], _∷_}
 use mathlib.Core.Path.{refl, sym, ap, _∙_}
 use denote.Ref.{now}
+use Rattle.job.specs.Limits.{firstInput}
 use Rattle.job.specs.Jobs.{inLine}
 use Rattle.job.specs.Read.{lineSaid}
 use Rattle.job.proofs.FillLaws.{Filling, filling-start, filling-again, filling-stop, filling-done}
@@ -12,13 +13,13 @@ use Rattle.job.proofs.read.fill_inputs.Statement.{statement}
 use Rattle.job.proofs.read.fill_inputs.Tie as tie
 
 abbrev Inv-loop : tie.InvT-loop
-Inv-loop text from count words₀ at₀ i₀ words at i = Filling inLine count 5 count text from words₀ words at i i
+Inv-loop text from count words₀ at₀ i₀ words at i = Filling inLine count firstInput count text from words₀ words at i i
 
 abbrev μ-loop : tie.MeasureT-loop
 μ-loop text from count words₀ at₀ i₀ words at i = count - i
 
 loop-holds : tie.Need-loop-holds Inv-loop μ-loop
-loop-holds c = filling-start inLine (c .before .args .count) 5 (c .before .args .count) (now (c .before .args .text)) (c .before .args .from) (now (c .before .args .words))
+loop-holds c = filling-start inLine (c .before .args .count) firstInput (c .before .args .count) (now (c .before .args .text)) (c .before .args .from) (now (c .before .args .words))
 
 read-input-requires : tie.Need-read-input-requires Inv-loop μ-loop
 read-input-requires c κs = search needs
@@ -46,7 +47,7 @@ loop-again c =
     let start = c .before .before .before .before .before .before .before in
     let args = start .args in
     let line = c .before .line .given in
-    filling-again inLine (args .count) 5 (args .count) (now (args .text)) (args .from) (now (args .words)) (line .0 .0 ∷ []) (c .before .before .before .before .loop-test .taken)
+    filling-again inLine (args .count) firstInput (args .count) (now (args .text)) (args .from) (now (args .words)) (line .0 .0 ∷ []) (c .before .before .before .before .loop-test .taken)
     (ap (lineSaid (now (args .text))) (sym (line .1)) ∙ c .before .before .before .read-input .ensures)
     refl refl (omega arith) (omega (arith, start .pre .0, start .pre .1)) (c .before .before .before .before .before .loop .inv)
 
@@ -60,13 +61,13 @@ returns : tie.Need-returns Inv-loop μ-loop
 returns c =
     let args = c .before .before .before .before .before .before .before .args in
     let line = c .before .line2 .given in
-    filling-stop inLine (args .count) 5 (args .count) (now (args .text)) (args .from) (now (args .words)) (line .0 .0) (c .before .before .before .before .loop-test .taken)
+    filling-stop inLine (args .count) firstInput (args .count) (now (args .text)) (args .from) (now (args .words)) (line .0 .0) (c .before .before .before .before .loop-test .taken)
     (ap (lineSaid (now (args .text))) (sym (line .1)) ∙ c .before .before .before .read-input .ensures) (c .before .before .before .before .before .loop .inv)
 
 returns-2 : tie.Need-returns-2 Inv-loop μ-loop
 returns-2 c =
     let args = c .before .before .before .args in
-    filling-done inLine (args .count) 5 (args .count) (now (args .text)) (args .from) (now (args .words)) (c .loop-test .left)
+    filling-done inLine (args .count) firstInput (args .count) (now (args .text)) (args .from) (now (args .words)) (c .loop-test .left)
     (omega (arith, c .loop-test .left, c .before .loop .inv .within)) (c .before .loop .inv)
 
 pub fill-inputs-spec : {M : Type 1} → statement M

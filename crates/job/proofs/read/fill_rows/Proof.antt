@@ -1,7 +1,7 @@
 -- `job::read::fill_rows` meets its contract. Assumes nothing.
 use Prim.Native.Nat.{_-_, _*_}
 use mathlib.Core.List.{[], _∷_}
-use mathlib.Core.Path.{refl, sym, ap, _∙_}
+use mathlib.Core.Path.{sym, ap, _∙_}
 use denote.Ref.{now}
 use Rattle.rules.specs.Limits.{rowWords}
 use Rattle.job.specs.Jobs.{rowLine}

@@ -1,5 +1,5 @@
 -- `job::read::is_digit` meets its contract. Assumes nothing.
-use mathlib.Core.Path.{sym, _∙_}
+use mathlib.Core.Path.{_∙_}
 use borrow.Author.Tests.{lt-leb}
 use Rattle.job.proofs.NumberLaws.{digit-low, digit-under}
 use Rattle.job.proofs.read.is_digit.Statement.{statement}

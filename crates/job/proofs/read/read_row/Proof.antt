@@ -29,7 +29,9 @@ unfolding rowLine
 returns c =
     let args = c .before .before .before .before .before .args in
     let text = now (args .text) in
-    line-stop rowKeys mostWord (drop (args .at) text) (fields-stop rowKey (comma ∷ comma ∷ comma ∷ []) (drop (args .at) text) (ap (fieldSaid text) (sym (c .enum-told .given .1)) ∙ c .before .before .read-field .ensures))
+    let none = ap (fieldSaid text) (sym (c .enum-told .given .1)) ∙ c .before .before .read-field .ensures in
+    line-stop rowKeys mostWord (drop (args .at) text)
+    (fields-stop rowKey (comma ∷ comma ∷ comma ∷ []) _ none)
 
 slice-aggregate-read-field-2 : tie.Need-slice-aggregate-read-field-2
 slice-aggregate-read-field-2 c = search needs
@@ -48,8 +50,11 @@ unfolding rowLine
 returns-2 c =
     let args = c .before .before .before .before .before .before .before .before .before .before .args in
     let text = now (args .text) in
+    let k = ap (fieldSaid text) (sym (c .before .before .before .before .before .first .given .1)) ∙ c .before .before .before .before .before .before .before .read-field .ensures in
+    let none = ap (fieldSaid text) (sym (c .enum-told2 .given .1)) ∙ c .before .before .read-field2 .ensures in
     line-stop rowKeys mostWord (drop (args .at) text)
-    (fields-broken rowKey (comma ∷ comma ∷ comma ∷ []) (drop (args .at) text) (drop (c .before .before .before .before .before .first .given .0 .1 .0) text) (c .before .before .before .before .before .first .given .0 .0) (ap (fieldSaid text) (sym (c .before .before .before .before .before .first .given .1)) ∙ c .before .before .before .before .before .before .before .read-field .ensures) (fields-stop comma (comma ∷ comma ∷ []) (drop (c .before .before .before .before .before .first .given .0 .1 .0) text) (ap (fieldSaid text) (sym (c .enum-told2 .given .1)) ∙ c .before .before .read-field2 .ensures)))
+    (fields-broken rowKey (comma ∷ comma ∷ comma ∷ []) _ k
+    (fields-stop comma (comma ∷ comma ∷ []) _ none))
 
 slice-aggregate-read-field-3 : tie.Need-slice-aggregate-read-field-3
 slice-aggregate-read-field-3 c = search needs
@@ -68,9 +73,13 @@ unfolding rowLine
 returns-3 c =
     let args = c .before .before .before .before .before .before .before .before .before .before .before .before .before .before .before .args in
     let text = now (args .text) in
+    let k = ap (fieldSaid text) (sym (c .before .before .before .before .before .before .before .before .before .before .first .given .1)) ∙ c .before .before .before .before .before .before .before .before .before .before .before .before .read-field .ensures in
+    let p = ap (fieldSaid text) (sym (c .before .before .before .before .before .second .given .1)) ∙ c .before .before .before .before .before .before .before .read-field2 .ensures in
+    let none = ap (fieldSaid text) (sym (c .enum-told3 .given .1)) ∙ c .before .before .read-field3 .ensures in
     line-stop rowKeys mostWord (drop (args .at) text)
-    (fields-broken rowKey (comma ∷ comma ∷ comma ∷ []) (drop (args .at) text) (drop (c .before .before .before .before .before .before .before .before .before .before .first .given .0 .1 .0) text) (c .before .before .before .before .before .before .before .before .before .before .first .given .0 .0) (ap (fieldSaid text) (sym (c .before .before .before .before .before .before .before .before .before .before .first .given .1)) ∙ c .before .before .before .before .before .before .before .before .before .before .before .before .read-field .ensures)
-    (fields-broken comma (comma ∷ comma ∷ []) (drop (c .before .before .before .before .before .before .before .before .before .before .first .given .0 .1 .0) text) (drop (c .before .before .before .before .before .second .given .0 .1 .0) text) (c .before .before .before .before .before .second .given .0 .0) (ap (fieldSaid text) (sym (c .before .before .before .before .before .second .given .1)) ∙ c .before .before .before .before .before .before .before .read-field2 .ensures) (fields-stop comma (comma ∷ []) (drop (c .before .before .before .before .before .second .given .0 .1 .0) text) (ap (fieldSaid text) (sym (c .enum-told3 .given .1)) ∙ c .before .before .read-field3 .ensures))))
+    (fields-broken rowKey (comma ∷ comma ∷ comma ∷ []) _ k
+    (fields-broken comma (comma ∷ comma ∷ []) _ p
+    (fields-stop comma (comma ∷ []) _ none)))
 
 slice-aggregate-read-field-4 : tie.Need-slice-aggregate-read-field-4
 slice-aggregate-read-field-4 c = search needs
@@ -89,10 +98,15 @@ unfolding rowLine
 returns-4 c =
     let args = c .before .before .before .before .before .before .before .before .before .before .before .before .before .before .before .before .before .before .before .before .args in
     let text = now (args .text) in
+    let k = ap (fieldSaid text) (sym (c .before .before .before .before .before .before .before .before .before .before .before .before .before .before .before .first .given .1)) ∙ c .before .before .before .before .before .before .before .before .before .before .before .before .before .before .before .before .before .read-field .ensures in
+    let p = ap (fieldSaid text) (sym (c .before .before .before .before .before .before .before .before .before .before .second .given .1)) ∙ c .before .before .before .before .before .before .before .before .before .before .before .before .read-field2 .ensures in
+    let q = ap (fieldSaid text) (sym (c .before .before .before .before .before .third .given .1)) ∙ c .before .before .before .before .before .before .before .read-field3 .ensures in
+    let none = ap (fieldSaid text) (sym (c .enum-told4 .given .1)) ∙ c .before .before .read-field4 .ensures in
     line-stop rowKeys mostWord (drop (args .at) text)
-    (fields-broken rowKey (comma ∷ comma ∷ comma ∷ []) (drop (args .at) text) (drop (c .before .before .before .before .before .before .before .before .before .before .before .before .before .before .before .first .given .0 .1 .0) text) (c .before .before .before .before .before .before .before .before .before .before .before .before .before .before .before .first .given .0 .0) (ap (fieldSaid text) (sym (c .before .before .before .before .before .before .before .before .before .before .before .before .before .before .before .first .given .1)) ∙ c .before .before .before .before .before .before .before .before .before .before .before .before .before .before .before .before .before .read-field .ensures)
-    (fields-broken comma (comma ∷ comma ∷ []) (drop (c .before .before .before .before .before .before .before .before .before .before .before .before .before .before .before .first .given .0 .1 .0) text) (drop (c .before .before .before .before .before .before .before .before .before .before .second .given .0 .1 .0) text) (c .before .before .before .before .before .before .before .before .before .before .second .given .0 .0) (ap (fieldSaid text) (sym (c .before .before .before .before .before .before .before .before .before .before .second .given .1)) ∙ c .before .before .before .before .before .before .before .before .before .before .before .before .read-field2 .ensures)
-    (fields-broken comma (comma ∷ []) (drop (c .before .before .before .before .before .before .before .before .before .before .second .given .0 .1 .0) text) (drop (c .before .before .before .before .before .third .given .0 .1 .0) text) (c .before .before .before .before .before .third .given .0 .0) (ap (fieldSaid text) (sym (c .before .before .before .before .before .third .given .1)) ∙ c .before .before .before .before .before .before .before .read-field3 .ensures) (fields-stop comma [] (drop (c .before .before .before .before .before .third .given .0 .1 .0) text) (ap (fieldSaid text) (sym (c .enum-told4 .given .1)) ∙ c .before .before .read-field4 .ensures)))))
+    (fields-broken rowKey (comma ∷ comma ∷ comma ∷ []) _ k
+    (fields-broken comma (comma ∷ comma ∷ []) _ p
+    (fields-broken comma (comma ∷ []) _ q
+    (fields-stop comma [] _ none))))
 
 close-row-requires : tie.Need-close-row-requires
 close-row-requires c κs = search needs
@@ -102,12 +116,17 @@ unfolding rowLine
 returns-5 c =
     let args = c .before .before .before .before .before .before .before .before .before .before .before .before .before .before .before .before .before .before .before .before .before .before .args in
     let text = now (args .text) in
+    let k = ap (fieldSaid text) (sym (c .before .before .before .before .before .before .before .before .before .before .before .before .before .before .before .before .before .first .given .1)) ∙ c .before .before .before .before .before .before .before .before .before .before .before .before .before .before .before .before .before .before .before .read-field .ensures in
+    let p = ap (fieldSaid text) (sym (c .before .before .before .before .before .before .before .before .before .before .before .before .second .given .1)) ∙ c .before .before .before .before .before .before .before .before .before .before .before .before .before .before .read-field2 .ensures in
+    let q = ap (fieldSaid text) (sym (c .before .before .before .before .before .before .before .third .given .1)) ∙ c .before .before .before .before .before .before .before .before .before .read-field3 .ensures in
+    let r = ap (fieldSaid text) (sym (c .before .before .fourth .given .1)) ∙ c .before .before .before .before .read-field4 .ensures in
     c .close-row .ensures
     ∙ line-go rowKeys mostWord (drop (args .at) text)
-    (fields-more rowKey (comma ∷ comma ∷ comma ∷ []) (drop (args .at) text) (drop (c .before .before .before .before .before .before .before .before .before .before .before .before .before .before .before .before .before .first .given .0 .1 .0) text) (c .before .before .before .before .before .before .before .before .before .before .before .before .before .before .before .before .before .first .given .0 .0) ((c .before .before .before .before .before .before .before .before .before .before .before .before .second .given .0 .0) ∷ (c .before .before .before .before .before .before .before .third .given .0 .0) ∷ (c .before .before .fourth .given .0 .0) ∷ []) (drop (c .before .before .fourth .given .0 .1 .0) text) (ap (fieldSaid text) (sym (c .before .before .before .before .before .before .before .before .before .before .before .before .before .before .before .before .before .first .given .1)) ∙ c .before .before .before .before .before .before .before .before .before .before .before .before .before .before .before .before .before .before .before .read-field .ensures)
-    (fields-more comma (comma ∷ comma ∷ []) (drop (c .before .before .before .before .before .before .before .before .before .before .before .before .before .before .before .before .before .first .given .0 .1 .0) text) (drop (c .before .before .before .before .before .before .before .before .before .before .before .before .second .given .0 .1 .0) text) (c .before .before .before .before .before .before .before .before .before .before .before .before .second .given .0 .0) ((c .before .before .before .before .before .before .before .third .given .0 .0) ∷ (c .before .before .fourth .given .0 .0) ∷ []) (drop (c .before .before .fourth .given .0 .1 .0) text) (ap (fieldSaid text) (sym (c .before .before .before .before .before .before .before .before .before .before .before .before .second .given .1)) ∙ c .before .before .before .before .before .before .before .before .before .before .before .before .before .before .read-field2 .ensures)
-    (fields-more comma (comma ∷ []) (drop (c .before .before .before .before .before .before .before .before .before .before .before .before .second .given .0 .1 .0) text) (drop (c .before .before .before .before .before .before .before .third .given .0 .1 .0) text) (c .before .before .before .before .before .before .before .third .given .0 .0) ((c .before .before .fourth .given .0 .0) ∷ []) (drop (c .before .before .fourth .given .0 .1 .0) text) (ap (fieldSaid text) (sym (c .before .before .before .before .before .before .before .third .given .1)) ∙ c .before .before .before .before .before .before .before .before .before .read-field3 .ensures)
-    (fields-more comma [] (drop (c .before .before .before .before .before .before .before .third .given .0 .1 .0) text) (drop (c .before .before .fourth .given .0 .1 .0) text) (c .before .before .fourth .given .0 .0) [] (drop (c .before .before .fourth .given .0 .1 .0) text) (ap (fieldSaid text) (sym (c .before .before .fourth .given .1)) ∙ c .before .before .before .before .read-field4 .ensures) (fields-none (drop (c .before .before .fourth .given .0 .1 .0) text))))))
+    (fields-more rowKey (comma ∷ comma ∷ comma ∷ []) _ k
+    (fields-more comma (comma ∷ comma ∷ []) _ p
+    (fields-more comma (comma ∷ []) _ q
+    (fields-more comma [] _ r
+    (fields-none _)))))
 
 pub read-row-spec : {M : Type 1} → statement M
 read-row-spec =

@@ -5,7 +5,7 @@ use mathlib.Core.Path.{refl, sym, ap, _∙_}
 use lib.ListN.{take, drop}
 use denote.Ref.{now}
 use Rattle.rules.specs.Limits.{rowWords, mostRows}
-use Rattle.job.specs.Limits.{tableWords}
+use Rattle.job.specs.Limits.{tableWords, firstInput}
 use Rattle.job.specs.Lines.{rowsKey}
 use Rattle.job.specs.Read.{lineSaid, linesSaid, reading}
 use Rattle.job.proofs.JobLaws.{line-within, table-uncounted, table-broken, table-further, table-told, filled-front, rows-counted, reading-told}
@@ -79,7 +79,7 @@ returns c =
     let words = c .before .before .before .before .before .fill-rows .last .1 .1 .1 .1 .0 in
     c .refused3 .ensures
     ∙ ap reading
-    (table-further (args .budget) (args .room) (args .marks) (5 + args .inputs) (take (args .inputs) (args .memory .words)) (drop (args .at) text) (count .0 .0) (6 + args .inputs) (drop (count .0 .1 .0) text) (ap (lineSaid text) (sym (c .before .before .before .before .before .before .before .before .count2 .given .1)) ∙ c .before .before .before .before .before .before .before .before .before .before .read-line .ensures) (omega arith) (take (rowWords * (count .0 .0)) words) text (end .0 .0)
+    (table-further (args .budget) (args .room) (args .marks) (firstInput + args .inputs) (take (args .inputs) (args .memory .words)) (drop (args .at) text) (count .0 .0) (6 + args .inputs) (drop (count .0 .1 .0) text) (ap (lineSaid text) (sym (c .before .before .before .before .before .before .before .before .count2 .given .1)) ∙ c .before .before .before .before .before .before .before .before .before .before .read-line .ensures) (omega arith) (take (rowWords * (count .0 .0)) words) text (end .0 .0)
     (ap (linesSaid text (rowWords * (count .0 .0)) words) (sym (end .1)) ∙ c .before .before .before .before .before .fill-rows .ensures .said) (c .before .if1 .taken))
 
 returns-2 : tie.Need-returns-2
@@ -87,7 +87,7 @@ returns-2 c =
     let args = c .before .before .before .before .before .before .before .args in
     let text = now (args .text) in
     c .refused .ensures
-    ∙ ap reading (table-uncounted (args .budget) (args .room) (args .marks) (5 + args .inputs) (take (args .inputs) (args .memory .words)) (drop (args .at) text) (c .before .before .count .given .0 .0) (ap (lineSaid text) (sym (c .before .before .count .given .1)) ∙ c .before .before .before .before .read-line .ensures))
+    ∙ ap reading (table-uncounted (args .budget) (args .room) (args .marks) (firstInput + args .inputs) (take (args .inputs) (args .memory .words)) (drop (args .at) text) (c .before .before .count .given .0 .0) (ap (lineSaid text) (sym (c .before .before .count .given .1)) ∙ c .before .before .before .before .read-line .ensures))
 
 returns-3 : tie.Need-returns-3
 returns-3 c =
@@ -97,7 +97,7 @@ returns-3 c =
     let broken = c .before .before .rows .given in
     c .refused2 .ensures
     ∙ ap reading
-    (table-broken (args .budget) (args .room) (args .marks) (5 + args .inputs) (take (args .inputs) (args .memory .words)) (drop (args .at) text) (count .0 .0) (6 + args .inputs) (drop (count .0 .1 .0) text) (ap (lineSaid text) (sym (c .before .before .before .before .before .before .before .count2 .given .1)) ∙ c .before .before .before .before .before .before .before .before .before .read-line .ensures) (omega arith) (broken .0 .0) (broken .0 .1 .0)
+    (table-broken (args .budget) (args .room) (args .marks) (firstInput + args .inputs) (take (args .inputs) (args .memory .words)) (drop (args .at) text) (count .0 .0) (6 + args .inputs) (drop (count .0 .1 .0) text) (ap (lineSaid text) (sym (c .before .before .before .before .before .before .before .count2 .given .1)) ∙ c .before .before .before .before .before .before .before .before .before .read-line .ensures) (omega arith) (broken .0 .0) (broken .0 .1 .0)
     (ap (linesSaid text (rowWords * (count .0 .0)) (c .before .before .before .before .fill-rows .last .1 .1 .1 .1 .0)) (sym (broken .1)) ∙ c .before .before .before .before .fill-rows .ensures .said))
 
 returns-4 : tie.Need-returns-4
@@ -115,7 +115,7 @@ returns-4 c =
     (filled-front tableWords (rowWords * (count .0 .0)) words (omega (arith, within)) same (c .before .before .before .before .fill-rows .ensures .kept))
     (rows-counted (count .0 .0) words (omega (arith, within, same)))
     ∙ ap reading
-    (table-told (args .budget) (args .room) (args .marks) (5 + args .inputs) (take (args .inputs) (args .memory .words)) (drop (args .at) text) (count .0 .0) (6 + args .inputs) (drop (count .0 .1 .0) text) counted (omega arith) (take (rowWords * (count .0 .0)) words) text (end .0 .0)
+    (table-told (args .budget) (args .room) (args .marks) (firstInput + args .inputs) (take (args .inputs) (args .memory .words)) (drop (args .at) text) (count .0 .0) (6 + args .inputs) (drop (count .0 .1 .0) text) counted (omega arith) (take (rowWords * (count .0 .0)) words) text (end .0 .0)
     (ap (linesSaid text (rowWords * (count .0 .0)) words) (sym (end .1)) ∙ c .before .before .before .before .fill-rows .ensures .said) (c .if1 .left))
 
 pub read-table-spec : {M : Type 1} → statement M

@@ -1,6 +1,4 @@
 -- `job::write::put_head` meets its contract. Assumes nothing.
-use denote.Ref.{now}
-use Rattle.rules.specs.Marks.{marked}
 use Rattle.rules.proofs.MarkLaws.{marked-ones}
 use Rattle.job.proofs.ReportLaws.{placed-head}
 use borrow.Author.Needs.{needs}
