@@ -224,7 +224,9 @@ fn read_input(text: &[u8], at: usize) -> Line
 
 // The line of a row whose numbers were read, and whose LF is to stand at a place.
 fn close_row(text: &[u8], at: usize, k: u64, p: u64, q: u64, r: u64) -> RowLine
-    ensures { λ result. ⌜ rowSaid (now (text .entry)) result ≡ ended mostWord (fields (k ∷ p ∷ q ∷ r ∷ []) (drop at (now (text .entry)))) ⌝ }
+    ensures { λ result. ⌜
+        rowSaid (now (text .entry)) result
+        ≡ ended mostWord (fields (k ∷ p ∷ q ∷ r ∷ []) (drop at (now (text .entry)))) ⌝ }
 {
     let end = after_key(text, at, b"\n");
     let Key::Next(next) = end else {
@@ -293,7 +295,9 @@ fn read_row(text: &[u8], at: usize) -> RowLine
 // Reads so many inputs' lines, from line 5 on, into the memory's words.
 fn fill_inputs(text: &[u8], from: usize, count: u32, words: &mut [u32; VARIABLES]) -> Lines
     requires { ⌜ (length (now words) ≡ width) × (count ≤ width) ⌝ }
-    ensures { λ r. ⌜ LinesRead (now (text .entry)) count (now (words .entry)) (now (words .exit)) r (linesOf inLine count firstInput [] (drop from (now (text .entry)))) ⌝ }
+    ensures { λ r. ⌜
+        LinesRead (now (text .entry)) count (now (words .entry)) (now (words .exit)) r
+        (linesOf inLine count firstInput [] (drop from (now (text .entry)))) ⌝ }
 {
     let mut at = from;
     let mut i: u32 = 0;
@@ -336,7 +340,9 @@ fn fill_rows(
     words: &mut [u32; TABLE_WORDS],
 ) -> Lines
     requires { ⌜ (length (now words) ≡ tableWords) × (count ≤ mostRows) × (line ≤ firstInput + 1 + width) ⌝ }
-    ensures { λ r. ⌜ LinesRead (now (text .entry)) (rowWords * count) (now (words .entry)) (now (words .exit)) r (linesOf rowLine count line [] (drop from (now (text .entry)))) ⌝ }
+    ensures { λ r. ⌜
+        LinesRead (now (text .entry)) (rowWords * count) (now (words .entry))
+        (now (words .exit)) r (linesOf rowLine count line [] (drop from (now (text .entry)))) ⌝ }
 {
     let mut at = from;
     let mut i: u32 = 0;
@@ -383,7 +389,9 @@ fn read_table(
     memory: Memory,
 ) -> Reading
     requires { ⌜ (inputs ≤ width) × (memory .words ≡ filled width (take inputs (memory .words))) ⌝ }
-    ensures { λ r. ⌜ r ≡ reading (readTable budget room marks (firstInput + inputs) (take inputs (memory .words)) (drop at (now (text .entry)))) ⌝ }
+    ensures { λ r. ⌜
+        r
+        ≡ reading (readTable budget room marks (firstInput + inputs) (take inputs (memory .words)) (drop at (now (text .entry)))) ⌝ }
 {
     let count = read_line(text, at, b"rows=", MOST_ROWS);
     match count {

@@ -61,7 +61,9 @@ fn put_key(out: &mut [u8], at: usize, key: &[u8]) -> usize
 // Puts a key and a number after it.
 fn put_field(out: &mut [u8], at: usize, key: &[u8], n: u32) -> usize
     requires { ⌜ at + mostField (now key) ≤ length (now out) ⌝ }
-    ensures { λ r. ⌜ Placed (now (out .entry)) at (fieldText (now (key .entry)) n) (mostField (now (key .entry))) r (now (out .exit)) ⌝ }
+    ensures { λ r. ⌜
+        Placed (now (out .entry)) at (fieldText (now (key .entry)) n)
+        (mostField (now (key .entry))) r (now (out .exit)) ⌝ }
 {
     let next = put_key(out, at, key);
     put_number(out, next, n)
@@ -70,7 +72,9 @@ fn put_field(out: &mut [u8], at: usize, key: &[u8], n: u32) -> usize
 // Puts a line of one number.
 fn put_line(out: &mut [u8], at: usize, key: &[u8], n: u32) -> usize
     requires { ⌜ at + mostLine (now key) ≤ length (now out) ⌝ }
-    ensures { λ r. ⌜ Placed (now (out .entry)) at (oneText (now (key .entry)) n) (mostLine (now (key .entry))) r (now (out .exit)) ⌝ }
+    ensures { λ r. ⌜
+        Placed (now (out .entry)) at (oneText (now (key .entry)) n)
+        (mostLine (now (key .entry))) r (now (out .exit)) ⌝ }
 {
     let next = put_field(out, at, key, n);
     put_key(out, next, b"\n")
@@ -99,7 +103,9 @@ fn put_value(out: &mut [u8], at: usize, n: u32) -> usize
 // Puts the values of the variables after v0, a comma before each.
 fn put_values(out: &mut [u8], from: usize, values: &[u32; VARIABLES]) -> usize
     requires { ⌜ (length (now values) ≡ width) × (from + mostField comma * (width - 1) ≤ length (now out)) ⌝ }
-    ensures { λ r. ⌜ Placed (now (out .entry)) from (fieldsText (replicate (width - 1) comma) (drop 1 (now (values .entry)))) (mostField comma * (width - 1)) r (now (out .exit)) ⌝ }
+    ensures { λ r. ⌜
+        Placed (now (out .entry)) from (fieldsText (replicate (width - 1) comma) (drop 1 (now (values .entry))))
+        (mostField comma * (width - 1)) r (now (out .exit)) ⌝ }
 {
     let mut at = from;
     let mut i = 1;
@@ -123,7 +129,9 @@ fn put_memory(out: &mut [u8], at: usize, values: &[u32; VARIABLES]) -> usize
 // Puts a record's line.
 fn put_record(out: &mut [u8], at: usize, channel: u32, value: u32) -> usize
     requires { ⌜ at + mostRecord ≤ length (now out) ⌝ }
-    ensures { λ r. ⌜ Placed (now (out .entry)) at (recordText (record { channel = channel; value = value })) mostRecord r (now (out .exit)) ⌝ }
+    ensures { λ r. ⌜
+        Placed (now (out .entry)) at
+        (recordText (record { channel = channel; value = value })) mostRecord r (now (out .exit)) ⌝ }
 {
     let after_channel = put_field(out, at, b"out=", channel);
     let after_value = put_field(out, after_channel, b",", value);
@@ -133,7 +141,9 @@ fn put_record(out: &mut [u8], at: usize, channel: u32, value: u32) -> usize
 // Puts the lines of the first records of the trace.
 fn put_records(out: &mut [u8], from: usize, trace: &[u32], records: usize) -> usize
     requires { ⌜ (recordWords * records ≤ length (now trace)) × (from + mostRecord * records ≤ length (now out)) ⌝ }
-    ensures { λ r. ⌜ Placed (now (out .entry)) from (recordsText (recordsOf records (now (trace .entry)))) (mostRecord * records) r (now (out .exit)) ⌝ }
+    ensures { λ r. ⌜
+        Placed (now (out .entry)) from (recordsText (recordsOf records (now (trace .entry))))
+        (mostRecord * records) r (now (out .exit)) ⌝ }
 {
     let mut at = from;
     let mut i = 0;
@@ -163,7 +173,9 @@ pub fn write_refusal(number: u32, at: u32, out: &mut [u8]) -> Wrote
 // Puts the report of a run that ended with a verdict at a place.
 fn put_run(verdict: u32, place: u32, answer: Answer, trace: &[u32], out: &mut [u8]) -> usize
     requires { ⌜ (recordWords * (answer .records) ≤ length (now trace)) × (mostRun (answer .records) ≤ length (now out)) ⌝ }
-    ensures { λ r. ⌜ Placed (now (out .entry)) 0 (runText verdict place (wholeOf answer (now (trace .entry)))) (mostRun (answer .records)) r (now (out .exit)) ⌝ }
+    ensures { λ r. ⌜
+        Placed (now (out .entry)) 0 (runText verdict place (wholeOf answer (now (trace .entry))))
+        (mostRun (answer .records)) r (now (out .exit)) ⌝ }
 {
     let memory = answer.memory;
     let records = answer.records;
@@ -175,7 +187,9 @@ fn put_run(verdict: u32, place: u32, answer: Answer, trace: &[u32], out: &mut [u
 
 // Writes the report of a run that ended with a verdict at a place.
 fn write_run(verdict: u32, place: u32, answer: Answer, trace: &[u32], out: &mut [u8]) -> Wrote
-    ensures { λ r. ⌜ (record { wrote = r; out = now (out .exit) }) ≡ runWritten (answer .records) (runText verdict place (wholeOf answer (now (trace .entry)))) (now (trace .entry)) (now (out .entry)) ⌝ }
+    ensures { λ r. ⌜
+        (record { wrote = r; out = now (out .exit) })
+        ≡ runWritten (answer .records) (runText verdict place (wholeOf answer (now (trace .entry)))) (now (trace .entry)) (now (out .entry)) ⌝ }
 {
     let records = answer.records as usize;
     if trace.len() < RECORD_WORDS * records {
@@ -189,7 +203,9 @@ fn write_run(verdict: u32, place: u32, answer: Answer, trace: &[u32], out: &mut 
 
 // Writes the report of an answer, whose records are the first words of the trace.
 pub fn write_report(answer: Answer, trace: &[u32], out: &mut [u8]) -> Wrote
-    ensures { λ r. ⌜ (record { wrote = r; out = now (out .exit) }) ≡ reportWritten answer (now (trace .entry)) (now (out .entry)) ⌝ }
+    ensures { λ r. ⌜
+        (record { wrote = r; out = now (out .exit) })
+        ≡ reportWritten answer (now (trace .entry)) (now (out .entry)) ⌝ }
 {
     let ended = answer.ended;
     match ended {

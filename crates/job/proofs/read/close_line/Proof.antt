@@ -26,22 +26,30 @@ cast-t12 c = search needs
 
 returns : tie.Need-returns
 returns c =
-    let args = c .before .before .before .before .before .before .before .args in
-    end-within (args .most) (args .value ∷ []) (drop (args .at) (now (args .text))) (drop (c .before .before .end .given .0 .0) (now (args .text)))
-    (ap (keySaid (now (args .text))) (sym (c .before .before .end .given .1)) ∙ c .before .before .before .before .after-key .ensures)
+    let at-end = c .before .before in
+    let at-after-key = at-end .before .before in
+    let start = at-after-key .before .before .before in
+    let args = start .args in
+    end-within (args .most) (args .value ∷ []) (drop (args .at) (now (args .text))) (drop (at-end .end .given .0 .0) (now (args .text)))
+    (ap (keySaid (now (args .text))) (sym (at-end .end .given .1)) ∙ at-after-key .after-key .ensures)
     (range-within (args .most) (args .value) [] (c .if1 .taken) (range-none (args .most)))
 
 returns-2 : tie.Need-returns-2
 returns-2 c =
-    let args = c .before .before .before .before .before .args in
+    let at-after-key = c .before .before in
+    let start = at-after-key .before .before .before in
+    let args = start .args in
     end-absent (args .most) (args .value ∷ []) (drop (args .at) (now (args .text)))
-    (ap (keySaid (now (args .text))) (sym (c .enum-told .given .1)) ∙ c .before .before .after-key .ensures)
+    (ap (keySaid (now (args .text))) (sym (c .enum-told .given .1)) ∙ at-after-key .after-key .ensures)
 
 returns-3 : tie.Need-returns-3
 returns-3 c =
-    let args = c .before .before .before .before .before .before .before .args in
-    end-over (args .most) (args .value ∷ []) (drop (args .at) (now (args .text))) (drop (c .before .before .end .given .0 .0) (now (args .text)))
-    (ap (keySaid (now (args .text))) (sym (c .before .before .end .given .1)) ∙ c .before .before .before .before .after-key .ensures)
+    let at-end = c .before .before in
+    let at-after-key = at-end .before .before in
+    let start = at-after-key .before .before .before in
+    let args = start .args in
+    end-over (args .most) (args .value ∷ []) (drop (args .at) (now (args .text))) (drop (at-end .end .given .0 .0) (now (args .text)))
+    (ap (keySaid (now (args .text))) (sym (at-end .end .given .1)) ∙ at-after-key .after-key .ensures)
     (range-over (args .most) (args .value) [] [] (c .if1 .left))
 
 pub close-line-spec : {M : Type 1} → statement M

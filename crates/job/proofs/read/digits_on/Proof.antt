@@ -37,11 +37,14 @@ loop-less c = search needs
 
 loop-again : tie.Need-loop-again Inv-loop μ-loop
 loop-again c =
+    let at-if1 = c .before in
+    let at-is-digit = at-if1 .before in
+    let at-loop-test = at-is-digit .before .before in
     let loop = c .before .before .before .before .before in
     let args = loop .before .before .args in (
       omega (arith, c .grown .ensures),
-      digits-again (now (args .text)) (loop .loop .i) (loop .loop .value) (c .grown .result) (c .before .before .before .before .loop-test .taken)
-          (sym (c .before .before .is-digit .ensures) ∙ c .before .if1 .taken) (c .grown .ensures)
+      digits-again (now (args .text)) (loop .loop .i) (loop .loop .value) (c .grown .result) (at-loop-test .loop-test .taken)
+          (sym (at-is-digit .is-digit .ensures) ∙ at-if1 .if1 .taken) (c .grown .ensures)
           ∙ loop .loop .inv .1,
     )
 

@@ -44,12 +44,16 @@ loop-less c = search needs
 
 loop-again : tie.Need-loop-again Inv-loop μ-loop
 loop-again c =
+    let at-line = c .before in
+    let at-read-input = at-line .before .before in
+    let at-loop-test = at-read-input .before in
+    let at-loop = at-loop-test .before in
     let start = c .before .before .before .before .before .before .before in
     let args = start .args in
-    let line = c .before .line .given in
-    filling-again inLine (args .count) firstInput (args .count) (now (args .text)) (args .from) (now (args .words)) (line .0 .0 ∷ []) (c .before .before .before .before .loop-test .taken)
-    (ap (lineSaid (now (args .text))) (sym (line .1)) ∙ c .before .before .before .read-input .ensures)
-    refl refl (omega arith) (omega (arith, start .pre .0, start .pre .1)) (c .before .before .before .before .before .loop .inv)
+    let line = at-line .line .given in
+    filling-again inLine (args .count) firstInput (args .count) (now (args .text)) (args .from) (now (args .words)) (line .0 .0 ∷ []) (at-loop-test .loop-test .taken)
+    (ap (lineSaid (now (args .text))) (sym (line .1)) ∙ at-read-input .read-input .ensures)
+    refl refl (omega arith) (omega (arith, start .pre .0, start .pre .1)) (at-loop .loop .inv)
 
 enum-known-line-2 : tie.Need-enum-known-line-2 Inv-loop μ-loop
 enum-known-line-2 c = search needs
@@ -59,10 +63,15 @@ add-t16 c = search needs
 
 returns : tie.Need-returns Inv-loop μ-loop
 returns c =
-    let args = c .before .before .before .before .before .before .before .args in
-    let line = c .before .line2 .given in
-    filling-stop inLine (args .count) firstInput (args .count) (now (args .text)) (args .from) (now (args .words)) (line .0 .0) (c .before .before .before .before .loop-test .taken)
-    (ap (lineSaid (now (args .text))) (sym (line .1)) ∙ c .before .before .before .read-input .ensures) (c .before .before .before .before .before .loop .inv)
+    let at-line2 = c .before in
+    let at-read-input = at-line2 .before .before in
+    let at-loop-test = at-read-input .before in
+    let at-loop = at-loop-test .before in
+    let start = at-loop .before .before in
+    let args = start .args in
+    let line = at-line2 .line2 .given in
+    filling-stop inLine (args .count) firstInput (args .count) (now (args .text)) (args .from) (now (args .words)) (line .0 .0) (at-loop-test .loop-test .taken)
+    (ap (lineSaid (now (args .text))) (sym (line .1)) ∙ at-read-input .read-input .ensures) (at-loop .loop .inv)
 
 returns-2 : tie.Need-returns-2 Inv-loop μ-loop
 returns-2 c =

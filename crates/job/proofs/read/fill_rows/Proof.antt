@@ -44,13 +44,17 @@ loop-less c = search needs
 
 loop-again : tie.Need-loop-again Inv-loop μ-loop
 loop-again c =
+    let at-row = c .before .before .before in
+    let at-read-row = at-row .before .before in
+    let at-loop-test = at-read-row .before in
+    let at-loop = at-loop-test .before in
     let start = c .before .before .before .before .before .before .before .before .before in
     let args = start .args in
-    let row = c .before .before .before .row .given in
+    let row = at-row .row .given in
     filling-again rowLine (args .count) (args .line) (rowWords * args .count) (now (args .text)) (args .from) (now (args .words))
-    (row .0 .0 ∷ row .0 .1 .0 ∷ row .0 .1 .1 .0 ∷ row .0 .1 .1 .1 .0 ∷ []) (c .before .before .before .before .before .before .loop-test .taken)
-    (ap (rowSaid (now (args .text))) (sym (row .1)) ∙ c .before .before .before .before .before .read-row .ensures)
-    (c .store-row .ensures) (omega arith) (omega (arith, c .before .before .before .before .before .before .loop-test .taken)) (omega (arith, start .pre .0, start .pre .1)) (c .before .before .before .before .before .before .before .loop .inv)
+    (row .0 .0 ∷ row .0 .1 .0 ∷ row .0 .1 .1 .0 ∷ row .0 .1 .1 .1 .0 ∷ []) (at-loop-test .loop-test .taken)
+    (ap (rowSaid (now (args .text))) (sym (row .1)) ∙ at-read-row .read-row .ensures)
+    (c .store-row .ensures) (omega arith) (omega (arith, at-loop-test .loop-test .taken)) (omega (arith, start .pre .0, start .pre .1)) (at-loop .loop .inv)
 
 enum-known-row-2 : tie.Need-enum-known-row-2 Inv-loop μ-loop
 enum-known-row-2 c = search needs
@@ -60,10 +64,15 @@ add-t20 c = search needs
 
 returns : tie.Need-returns Inv-loop μ-loop
 returns c =
-    let args = c .before .before .before .before .before .before .before .args in
-    let row = c .before .row2 .given in
-    filling-stop rowLine (args .count) (args .line) (rowWords * args .count) (now (args .text)) (args .from) (now (args .words)) (row .0 .0) (c .before .before .before .before .loop-test .taken)
-    (ap (rowSaid (now (args .text))) (sym (row .1)) ∙ c .before .before .before .read-row .ensures) (c .before .before .before .before .before .loop .inv)
+    let at-row2 = c .before in
+    let at-read-row = at-row2 .before .before in
+    let at-loop-test = at-read-row .before in
+    let at-loop = at-loop-test .before in
+    let start = at-loop .before .before in
+    let args = start .args in
+    let row = at-row2 .row2 .given in
+    filling-stop rowLine (args .count) (args .line) (rowWords * args .count) (now (args .text)) (args .from) (now (args .words)) (row .0 .0) (at-loop-test .loop-test .taken)
+    (ap (rowSaid (now (args .text))) (sym (row .1)) ∙ at-read-row .read-row .ensures) (at-loop .loop .inv)
 
 returns-2 : tie.Need-returns-2 Inv-loop μ-loop
 returns-2 c =

@@ -46,9 +46,13 @@ returns-3 c =
 
 returns-4 : tie.Need-returns-4
 returns-4 c =
-    let args = c .before .before .before .before .before .before .args in
-    number-lacks (now (args .text)) (args .at) (c .before .before .before .before .if1 .left) (c .before .before .if2 .left)
-    (sym (c .before .is-digit .ensures) ∙ c .if3 .left)
+    let at-is-digit = c .before in
+    let at-if2 = at-is-digit .before in
+    let at-if1 = at-if2 .before .before in
+    let start = at-if1 .before .before in
+    let args = start .args in
+    number-lacks (now (args .text)) (args .at) (at-if1 .if1 .left) (at-if2 .if2 .left)
+    (sym (at-is-digit .is-digit .ensures) ∙ c .if3 .left)
 
 pub number-at-spec : {M : Type 1} → statement M
 number-at-spec =

@@ -29,30 +29,39 @@ enum-known-line-2 c = search needs
 
 read-inputs-requires : tie.Need-read-inputs-requires
 read-inputs-requires c κs =
-    let args = c .before .before .before .before .before .before .args in
+    let at-line2 = c .before in
+    let at-read-line = at-line2 .before .before in
+    let start = at-read-line .before .before .before in
+    let args = start .args in
     let text = now (args .text) in
-    let line = c .before .line2 .given in
+    let line = at-line2 .line2 .given in
     line-within (inputsKey ∷ []) mostInputs (line .0 .0) (drop (args .at) text) (drop (line .0 .1 .0) text)
-    (ap (lineSaid text) (sym (line .1)) ∙ c .before .before .before .read-line .ensures)
+    (ap (lineSaid text) (sym (line .1)) ∙ at-read-line .read-line .ensures)
 
 returns : tie.Need-returns
 unfolding readCount
 returns c =
-    let args = c .before .before .before .before .before .before .before .args in
+    let at-line = c .before .before in
+    let at-read-line = at-line .before .before in
+    let start = at-read-line .before .before .before in
+    let args = start .args in
     let text = now (args .text) in
     c .refused .ensures
     ∙ ap reading
-    (one-refused 4 (lineOf (inputsKey ∷ []) mostInputs (drop (args .at) text)) (readInputs (args .budget) (args .room) (args .marks)) (c .before .before .line .given .0 .0) (ap (lineSaid text) (sym (c .before .before .line .given .1)) ∙ c .before .before .before .before .read-line .ensures))
+    (one-refused 4 (lineOf (inputsKey ∷ []) mostInputs (drop (args .at) text)) (readInputs (args .budget) (args .room) (args .marks)) (at-line .line .given .0 .0) (ap (lineSaid text) (sym (at-line .line .given .1)) ∙ at-read-line .read-line .ensures))
 
 returns-2 : tie.Need-returns-2
 unfolding readCount
 returns-2 c =
-    let args = c .before .before .before .before .before .before .before .args in
+    let at-line2 = c .before .before in
+    let at-read-line = at-line2 .before .before in
+    let start = at-read-line .before .before .before in
+    let args = start .args in
     let text = now (args .text) in
-    let line = c .before .before .line2 .given in
+    let line = at-line2 .line2 .given in
     c .read-inputs .ensures
     ∙ ap reading
-    (one-told 4 (lineOf (inputsKey ∷ []) mostInputs (drop (args .at) text)) (readInputs (args .budget) (args .room) (args .marks)) (line .0 .0) (drop (line .0 .1 .0) text) (ap (lineSaid text) (sym (line .1)) ∙ c .before .before .before .before .read-line .ensures))
+    (one-told 4 (lineOf (inputsKey ∷ []) mostInputs (drop (args .at) text)) (readInputs (args .budget) (args .room) (args .marks)) (line .0 .0) (drop (line .0 .1 .0) text) (ap (lineSaid text) (sym (line .1)) ∙ at-read-line .read-line .ensures))
 
 pub read-count-spec : {M : Type 1} → statement M
 read-count-spec =

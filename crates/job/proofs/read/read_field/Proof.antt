@@ -22,16 +22,21 @@ number-at-requires c κs = search needs
 
 returns : tie.Need-returns
 returns c =
-    let args = c .before .before .before .before .before .args in
+    let at-after-key = c .before .before in
+    let start = at-after-key .before .before .before in
+    let args = start .args in
     field-absent (now (args .key)) (drop (args .at) (now (args .text)))
-    (ap (keySaid (now (args .text))) (sym (c .enum-told .given .1)) ∙ c .before .before .after-key .ensures)
+    (ap (keySaid (now (args .text))) (sym (c .enum-told .given .1)) ∙ at-after-key .after-key .ensures)
 
 returns-2 : tie.Need-returns-2
 returns-2 c =
-    let args = c .before .before .before .before .before .before .before .args in
+    let at-found = c .before .before in
+    let at-after-key = at-found .before .before in
+    let start = at-after-key .before .before .before in
+    let args = start .args in
     c .number-at .ensures
-    ∙ field-after (now (args .key)) (drop (args .at) (now (args .text))) (drop (c .before .before .found .given .0 .0) (now (args .text)))
-    (ap (keySaid (now (args .text))) (sym (c .before .before .found .given .1)) ∙ c .before .before .before .before .after-key .ensures)
+    ∙ field-after (now (args .key)) (drop (args .at) (now (args .text))) (drop (at-found .found .given .0 .0) (now (args .text)))
+    (ap (keySaid (now (args .text))) (sym (at-found .found .given .1)) ∙ at-after-key .after-key .ensures)
 
 pub read-field-spec : {M : Type 1} → statement M
 read-field-spec =

@@ -23,30 +23,38 @@ enum-known-lines-2 c = search needs
 
 read-table-requires : tie.Need-read-table-requires
 read-table-requires c κs =
-    let words = c .before .before .before .fill-inputs .last .1 .1 .1 .0 in
-    (c .before .before .before .before .before .before .pre, filled-front width (c .before .before .before .before .before .before .args .inputs) words (c .before .before .before .before .before .before .pre) (c .before .before .before .fill-inputs .ensures .same) (c .before .before .before .fill-inputs .ensures .kept))
+    let at-fill-inputs = c .before .before .before in
+    let start = at-fill-inputs .before .before .before in
+    let words = at-fill-inputs .fill-inputs .last .1 .1 .1 .0 in
+    (start .pre, filled-front width (start .args .inputs) words (start .pre) (at-fill-inputs .fill-inputs .ensures .same) (at-fill-inputs .fill-inputs .ensures .kept))
 
 returns : tie.Need-returns
 returns c =
-    let args = c .before .before .before .before .before .before .before .args in
+    let at-lines = c .before .before in
+    let at-fill-inputs = at-lines .before .before in
+    let start = at-fill-inputs .before .before .before in
+    let args = start .args in
     let text = now (args .text) in
-    let words = c .before .before .before .before .fill-inputs .last .1 .1 .1 .0 in
-    let broken = c .before .before .lines .given in
+    let words = at-fill-inputs .fill-inputs .last .1 .1 .1 .0 in
+    let broken = at-lines .lines .given in
     c .refused .ensures
     ∙ ap reading
     (inputs-broken (args .budget) (args .room) (args .marks) (args .inputs) (drop (args .at) text) (broken .0 .0) (broken .0 .1 .0)
-    (ap (linesSaid text (args .inputs) words) (sym (broken .1)) ∙ c .before .before .before .before .fill-inputs .ensures .said))
+    (ap (linesSaid text (args .inputs) words) (sym (broken .1)) ∙ at-fill-inputs .fill-inputs .ensures .said))
 
 returns-2 : tie.Need-returns-2
 returns-2 c =
-    let args = c .before .before .before .before .before .before .before .args in
+    let at-lines2 = c .before .before in
+    let at-fill-inputs = at-lines2 .before .before in
+    let start = at-fill-inputs .before .before .before in
+    let args = start .args in
     let text = now (args .text) in
-    let words = c .before .before .before .before .fill-inputs .last .1 .1 .1 .0 in
-    let end = c .before .before .lines2 .given in
+    let words = at-fill-inputs .fill-inputs .last .1 .1 .1 .0 in
+    let end = at-lines2 .lines2 .given in
     c .read-table .ensures
     ∙ ap reading
     (inputs-told (args .budget) (args .room) (args .marks) (args .inputs) (drop (args .at) text) (take (args .inputs) words) (drop (end .0 .0) text)
-    (ap (linesSaid text (args .inputs) words) (sym (end .1)) ∙ c .before .before .before .before .fill-inputs .ensures .said))
+    (ap (linesSaid text (args .inputs) words) (sym (end .1)) ∙ at-fill-inputs .fill-inputs .ensures .said))
 
 pub read-inputs-spec : {M : Type 1} → statement M
 read-inputs-spec =

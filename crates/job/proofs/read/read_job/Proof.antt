@@ -41,21 +41,29 @@ read-room-requires c κs = search needs
 returns-2 : tie.Need-returns-2
 unfolding readBudget
 returns-2 c =
-    let text = now (c .before .before .before .before .before .before .before .before .args .text) in
+    let at-line = c .before .before in
+    let at-read-line = at-line .before .before in
+    let at-if1 = at-read-line .before .before in
+    let start = at-if1 .before .before in
+    let text = now (start .args .text) in
     c .refused2 .ensures
     ∙ ap reading
-    (one-refused 1 (lineOf (budgetKey ∷ []) mostWord text) readRoom (c .before .before .line .given .0 .0) (ap (lineSaid text) (sym (c .before .before .line .given .1)) ∙ c .before .before .before .before .read-line .ensures)
-    ∙ job-sized text (c .before .before .before .before .before .before .if1 .left))
+    (one-refused 1 (lineOf (budgetKey ∷ []) mostWord text) readRoom (at-line .line .given .0 .0) (ap (lineSaid text) (sym (at-line .line .given .1)) ∙ at-read-line .read-line .ensures)
+    ∙ job-sized text (at-if1 .if1 .left))
 
 returns-3 : tie.Need-returns-3
 unfolding readBudget
 returns-3 c =
-    let text = now (c .before .before .before .before .before .before .before .before .args .text) in
-    let line = c .before .before .line2 .given in
+    let at-line2 = c .before .before in
+    let at-read-line = at-line2 .before .before in
+    let at-if1 = at-read-line .before .before in
+    let start = at-if1 .before .before in
+    let text = now (start .args .text) in
+    let line = at-line2 .line2 .given in
     c .read-room .ensures
     ∙ ap reading
-    (one-told 1 (lineOf (budgetKey ∷ []) mostWord text) readRoom (line .0 .0) (drop (line .0 .1 .0) text) (ap (lineSaid text) (sym (line .1)) ∙ c .before .before .before .before .read-line .ensures)
-    ∙ job-sized text (c .before .before .before .before .before .before .if1 .left))
+    (one-told 1 (lineOf (budgetKey ∷ []) mostWord text) readRoom (line .0 .0) (drop (line .0 .1 .0) text) (ap (lineSaid text) (sym (line .1)) ∙ at-read-line .read-line .ensures)
+    ∙ job-sized text (at-if1 .if1 .left))
 
 pub read-job-spec : {M : Type 1} → statement M
 read-job-spec =

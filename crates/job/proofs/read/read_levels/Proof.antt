@@ -33,21 +33,27 @@ read-count-requires c κs = search needs
 returns : tie.Need-returns
 unfolding readLevels
 returns c =
-    let args = c .before .before .before .before .before .before .before .args in
+    let at-line = c .before .before in
+    let at-read-line = at-line .before .before in
+    let start = at-read-line .before .before .before in
+    let args = start .args in
     let text = now (args .text) in
     c .refused .ensures
     ∙ ap reading
-    (one-refused 3 (lineOf (levelsKey ∷ []) mostWord (drop (args .at) text)) (readCount (args .budget) (args .room)) (c .before .before .line .given .0 .0) (ap (lineSaid text) (sym (c .before .before .line .given .1)) ∙ c .before .before .before .before .read-line .ensures))
+    (one-refused 3 (lineOf (levelsKey ∷ []) mostWord (drop (args .at) text)) (readCount (args .budget) (args .room)) (at-line .line .given .0 .0) (ap (lineSaid text) (sym (at-line .line .given .1)) ∙ at-read-line .read-line .ensures))
 
 returns-2 : tie.Need-returns-2
 unfolding readLevels
 returns-2 c =
-    let args = c .before .before .before .before .before .before .before .args in
+    let at-line2 = c .before .before in
+    let at-read-line = at-line2 .before .before in
+    let start = at-read-line .before .before .before in
+    let args = start .args in
     let text = now (args .text) in
-    let line = c .before .before .line2 .given in
+    let line = at-line2 .line2 .given in
     c .read-count .ensures
     ∙ ap reading
-    (one-told 3 (lineOf (levelsKey ∷ []) mostWord (drop (args .at) text)) (readCount (args .budget) (args .room)) (line .0 .0) (drop (line .0 .1 .0) text) (ap (lineSaid text) (sym (line .1)) ∙ c .before .before .before .before .read-line .ensures))
+    (one-told 3 (lineOf (levelsKey ∷ []) mostWord (drop (args .at) text)) (readCount (args .budget) (args .room)) (line .0 .0) (drop (line .0 .1 .0) text) (ap (lineSaid text) (sym (line .1)) ∙ at-read-line .read-line .ensures))
 
 pub read-levels-spec : {M : Type 1} → statement M
 read-levels-spec =

@@ -22,17 +22,22 @@ close-line-requires c κs = search needs
 
 returns : tie.Need-returns
 returns c =
-    let args = c .before .before .before .before .before .args in
+    let at-read-field = c .before .before in
+    let start = at-read-field .before .before .before in
+    let args = start .args in
     line-none (now (args .key)) (args .most) (drop (args .at) (now (args .text)))
-    (ap (fieldSaid (now (args .text))) (sym (c .enum-told .given .1)) ∙ c .before .before .read-field .ensures)
+    (ap (fieldSaid (now (args .text))) (sym (c .enum-told .given .1)) ∙ at-read-field .read-field .ensures)
 
 returns-2 : tie.Need-returns-2
 returns-2 c =
-    let args = c .before .before .before .before .before .before .before .args in
-    let found = c .before .before .found .given in
+    let at-found = c .before .before in
+    let at-read-field = at-found .before .before in
+    let start = at-read-field .before .before .before in
+    let args = start .args in
+    let found = at-found .found .given in
     c .close-line .ensures
     ∙ line-number (now (args .key)) (args .most) (drop (args .at) (now (args .text))) (drop (found .0 .1 .0) (now (args .text))) (found .0 .0)
-    (ap (fieldSaid (now (args .text))) (sym (found .1)) ∙ c .before .before .before .before .read-field .ensures)
+    (ap (fieldSaid (now (args .text))) (sym (found .1)) ∙ at-read-field .read-field .ensures)
 
 pub read-line-spec : {M : Type 1} → statement M
 read-line-spec =

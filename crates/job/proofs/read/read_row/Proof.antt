@@ -27,9 +27,11 @@ enum-told c = search needs
 returns : tie.Need-returns
 unfolding rowLine
 returns c =
-    let args = c .before .before .before .before .before .args in
+    let at-read-field = c .before .before in
+    let start = at-read-field .before .before .before in
+    let args = start .args in
     let text = now (args .text) in
-    let none = ap (fieldSaid text) (sym (c .enum-told .given .1)) ∙ c .before .before .read-field .ensures in
+    let none = ap (fieldSaid text) (sym (c .enum-told .given .1)) ∙ at-read-field .read-field .ensures in
     line-stop rowKeys mostWord (drop (args .at) text)
     (fields-stop rowKey (comma ∷ comma ∷ comma ∷ []) _ none)
 
@@ -48,10 +50,14 @@ enum-told-2 c = search needs
 returns-2 : tie.Need-returns-2
 unfolding rowLine
 returns-2 c =
-    let args = c .before .before .before .before .before .before .before .before .before .before .args in
+    let at-read-field2 = c .before .before in
+    let at-first = at-read-field2 .before .before .before in
+    let at-read-field = at-first .before .before in
+    let start = at-read-field .before .before .before in
+    let args = start .args in
     let text = now (args .text) in
-    let k = ap (fieldSaid text) (sym (c .before .before .before .before .before .first .given .1)) ∙ c .before .before .before .before .before .before .before .read-field .ensures in
-    let none = ap (fieldSaid text) (sym (c .enum-told2 .given .1)) ∙ c .before .before .read-field2 .ensures in
+    let k = ap (fieldSaid text) (sym (at-first .first .given .1)) ∙ at-read-field .read-field .ensures in
+    let none = ap (fieldSaid text) (sym (c .enum-told2 .given .1)) ∙ at-read-field2 .read-field2 .ensures in
     line-stop rowKeys mostWord (drop (args .at) text)
     (fields-broken rowKey (comma ∷ comma ∷ comma ∷ []) _ k
     (fields-stop comma (comma ∷ comma ∷ []) _ none))
@@ -71,11 +77,17 @@ enum-told-3 c = search needs
 returns-3 : tie.Need-returns-3
 unfolding rowLine
 returns-3 c =
-    let args = c .before .before .before .before .before .before .before .before .before .before .before .before .before .before .before .args in
+    let at-read-field3 = c .before .before in
+    let at-second = at-read-field3 .before .before .before in
+    let at-read-field2 = at-second .before .before in
+    let at-first = at-read-field2 .before .before .before in
+    let at-read-field = at-first .before .before in
+    let start = at-read-field .before .before .before in
+    let args = start .args in
     let text = now (args .text) in
-    let k = ap (fieldSaid text) (sym (c .before .before .before .before .before .before .before .before .before .before .first .given .1)) ∙ c .before .before .before .before .before .before .before .before .before .before .before .before .read-field .ensures in
-    let p = ap (fieldSaid text) (sym (c .before .before .before .before .before .second .given .1)) ∙ c .before .before .before .before .before .before .before .read-field2 .ensures in
-    let none = ap (fieldSaid text) (sym (c .enum-told3 .given .1)) ∙ c .before .before .read-field3 .ensures in
+    let k = ap (fieldSaid text) (sym (at-first .first .given .1)) ∙ at-read-field .read-field .ensures in
+    let p = ap (fieldSaid text) (sym (at-second .second .given .1)) ∙ at-read-field2 .read-field2 .ensures in
+    let none = ap (fieldSaid text) (sym (c .enum-told3 .given .1)) ∙ at-read-field3 .read-field3 .ensures in
     line-stop rowKeys mostWord (drop (args .at) text)
     (fields-broken rowKey (comma ∷ comma ∷ comma ∷ []) _ k
     (fields-broken comma (comma ∷ comma ∷ []) _ p
@@ -96,12 +108,20 @@ enum-told-4 c = search needs
 returns-4 : tie.Need-returns-4
 unfolding rowLine
 returns-4 c =
-    let args = c .before .before .before .before .before .before .before .before .before .before .before .before .before .before .before .before .before .before .before .before .args in
+    let at-read-field4 = c .before .before in
+    let at-third = at-read-field4 .before .before .before in
+    let at-read-field3 = at-third .before .before in
+    let at-second = at-read-field3 .before .before .before in
+    let at-read-field2 = at-second .before .before in
+    let at-first = at-read-field2 .before .before .before in
+    let at-read-field = at-first .before .before in
+    let start = at-read-field .before .before .before in
+    let args = start .args in
     let text = now (args .text) in
-    let k = ap (fieldSaid text) (sym (c .before .before .before .before .before .before .before .before .before .before .before .before .before .before .before .first .given .1)) ∙ c .before .before .before .before .before .before .before .before .before .before .before .before .before .before .before .before .before .read-field .ensures in
-    let p = ap (fieldSaid text) (sym (c .before .before .before .before .before .before .before .before .before .before .second .given .1)) ∙ c .before .before .before .before .before .before .before .before .before .before .before .before .read-field2 .ensures in
-    let q = ap (fieldSaid text) (sym (c .before .before .before .before .before .third .given .1)) ∙ c .before .before .before .before .before .before .before .read-field3 .ensures in
-    let none = ap (fieldSaid text) (sym (c .enum-told4 .given .1)) ∙ c .before .before .read-field4 .ensures in
+    let k = ap (fieldSaid text) (sym (at-first .first .given .1)) ∙ at-read-field .read-field .ensures in
+    let p = ap (fieldSaid text) (sym (at-second .second .given .1)) ∙ at-read-field2 .read-field2 .ensures in
+    let q = ap (fieldSaid text) (sym (at-third .third .given .1)) ∙ at-read-field3 .read-field3 .ensures in
+    let none = ap (fieldSaid text) (sym (c .enum-told4 .given .1)) ∙ at-read-field4 .read-field4 .ensures in
     line-stop rowKeys mostWord (drop (args .at) text)
     (fields-broken rowKey (comma ∷ comma ∷ comma ∷ []) _ k
     (fields-broken comma (comma ∷ comma ∷ []) _ p
@@ -114,12 +134,21 @@ close-row-requires c κs = search needs
 returns-5 : tie.Need-returns-5
 unfolding rowLine
 returns-5 c =
-    let args = c .before .before .before .before .before .before .before .before .before .before .before .before .before .before .before .before .before .before .before .before .before .before .args in
+    let at-fourth = c .before .before in
+    let at-read-field4 = at-fourth .before .before in
+    let at-third = at-read-field4 .before .before .before in
+    let at-read-field3 = at-third .before .before in
+    let at-second = at-read-field3 .before .before .before in
+    let at-read-field2 = at-second .before .before in
+    let at-first = at-read-field2 .before .before .before in
+    let at-read-field = at-first .before .before in
+    let start = at-read-field .before .before .before in
+    let args = start .args in
     let text = now (args .text) in
-    let k = ap (fieldSaid text) (sym (c .before .before .before .before .before .before .before .before .before .before .before .before .before .before .before .before .before .first .given .1)) ∙ c .before .before .before .before .before .before .before .before .before .before .before .before .before .before .before .before .before .before .before .read-field .ensures in
-    let p = ap (fieldSaid text) (sym (c .before .before .before .before .before .before .before .before .before .before .before .before .second .given .1)) ∙ c .before .before .before .before .before .before .before .before .before .before .before .before .before .before .read-field2 .ensures in
-    let q = ap (fieldSaid text) (sym (c .before .before .before .before .before .before .before .third .given .1)) ∙ c .before .before .before .before .before .before .before .before .before .read-field3 .ensures in
-    let r = ap (fieldSaid text) (sym (c .before .before .fourth .given .1)) ∙ c .before .before .before .before .read-field4 .ensures in
+    let k = ap (fieldSaid text) (sym (at-first .first .given .1)) ∙ at-read-field .read-field .ensures in
+    let p = ap (fieldSaid text) (sym (at-second .second .given .1)) ∙ at-read-field2 .read-field2 .ensures in
+    let q = ap (fieldSaid text) (sym (at-third .third .given .1)) ∙ at-read-field3 .read-field3 .ensures in
+    let r = ap (fieldSaid text) (sym (at-fourth .fourth .given .1)) ∙ at-read-field4 .read-field4 .ensures in
     c .close-row .ensures
     ∙ line-go rowKeys mostWord (drop (args .at) text)
     (fields-more rowKey (comma ∷ comma ∷ comma ∷ []) _ k

@@ -90,13 +90,15 @@ put-number-slice-write-out-2 : (t : ℕ) → put-number-lts.Need-slice-write-out
   put-number.Post,
 ) (put-number-at t) put-number.Post
 put-number-slice-write-out-2 t c =
+    let at-put-number = c .before .before in
+    let at-if1 = at-put-number .before .before in
     let start = c .before .before .before .before .before .before in
     omega (
       arith,
-      c .before .before .put-number .ensures .place,
-      c .before .before .put-number .kept .0,
+      at-put-number .put-number .ensures .place,
+      at-put-number .put-number .kept .0,
       start .pre .1,
-      placed-room (start .args .n) (c .before .before .before .before .if1 .left) (start .fits .n .fits),
+      placed-room (start .args .n) (at-if1 .if1 .left) (start .fits .n .fits),
     )
 
 put-number-add-result-2 : (t : ℕ) → put-number-lts.Need-add-result-2 (
@@ -116,10 +118,12 @@ put-number-returns-2 : (t : ℕ) → put-number-lts.Need-returns-2 (
   put-number.Post,
 ) (put-number-at t) put-number.Post
 put-number-returns-2 t c =
+    let at-put-number = c .before .before in
+    let at-if1 = at-put-number .before .before in
     let start = c .before .before .before .before .before .before in
-    placed-more (now (start .args .out)) (start .args .at) (start .args .n) (c .before .before .put-number .result)
-    (c .before .before .put-number .last .0) (c .before .before .before .before .if1 .left) (start .fits .n .fits)
-    (c .before .before .put-number .ensures)
+    placed-more (now (start .args .out)) (start .args .at) (start .args .n) (at-put-number .put-number .result)
+    (at-put-number .put-number .last .0) (at-if1 .if1 .left) (start .fits .n .fits)
+    (at-put-number .put-number .ensures)
 
 pub +put-number-spec : {M : Type 1} → statement M
 +put-number-spec = close μ-put-number λ t. put-number-lts.spec (

@@ -15,7 +15,11 @@ same-length : tie.Need-same-length
 same-length c = search needs
 
 returns : tie.Need-returns
-returns c = placed-field (now (c .before .before .before .before .before .before .before .before .before .before .args .key)) (c .before .before .before .before .before .before .before .before .before .before .args .n) (c .before .before .before .before .before .before .put-key .ensures) (c .before .before .put-number .ensures)
+returns c =
+    let at-put-number = c .before .before in
+    let at-put-key = at-put-number .before .before .before .before in
+    let start = at-put-key .before .before .before .before in
+    placed-field (now (start .args .key)) (start .args .n) (at-put-key .put-key .ensures) (at-put-number .put-number .ensures)
 
 pub put-field-spec : {M : Type 1} → statement M
 put-field-spec = tie.close (tie.spec put-key-requires put-number-requires same-length returns)

@@ -40,9 +40,15 @@ same-length c = search needs
 
 returns : tie.Need-returns
 returns c =
-    let args = c .before .before .before .before .before .before .before .before .before .before .before .before .before .before .before .before .before .before .before .before .before .before .before .before .before .before .args in
-    placed-head (args .verdict) (args .place) (args .steps) (args .marks) _ (marked-ones (args .marks) (c .before .before .before .before .before .before .before .before .before .before .before .before .before .before .before .before .before .before .before .before .before .before .before .before .before .before .fits .marks .fits))
-    (c .before .before .before .before .before .before .before .before .before .before .before .before .before .before .before .before .before .before .before .before .before .before .put-line .ensures) (c .before .before .before .before .before .before .before .before .before .before .before .before .before .before .before .before .before .put-line2 .ensures) (c .before .before .before .before .before .before .before .before .before .before .before .before .put-line3 .ensures) (c .before .before .before .before .before .before .before .put-line4 .ensures) (c .before .before .put-line5 .ensures)
+    let at-put-line5 = c .before .before in
+    let at-put-line4 = at-put-line5 .before .before .before .before .before in
+    let at-put-line3 = at-put-line4 .before .before .before .before .before in
+    let at-put-line2 = at-put-line3 .before .before .before .before .before in
+    let at-put-line = at-put-line2 .before .before .before .before .before in
+    let start = at-put-line .before .before .before .before in
+    let args = start .args in
+    placed-head (args .verdict) (args .place) (args .steps) (args .marks) _ (marked-ones (args .marks) (start .fits .marks .fits))
+    (at-put-line .put-line .ensures) (at-put-line2 .put-line2 .ensures) (at-put-line3 .put-line3 .ensures) (at-put-line4 .put-line4 .ensures) (at-put-line5 .put-line5 .ensures)
 
 pub put-head-spec : {M : Type 1} → statement M
 put-head-spec =

@@ -18,7 +18,11 @@ same-length : tie.Need-same-length
 same-length c = search needs
 
 returns : tie.Need-returns
-returns c = placed-line (now (c .before .before .before .before .before .before .before .before .before .before .before .args .key)) (c .before .before .before .before .before .before .before .before .before .before .before .args .n) (c .before .before .before .before .before .before .before .put-field .ensures) (c .before .before .put-key .ensures)
+returns c =
+    let at-put-key = c .before .before in
+    let at-put-field = at-put-key .before .before .before .before .before in
+    let start = at-put-field .before .before .before .before in
+    placed-line (now (start .args .key)) (start .args .n) (at-put-field .put-field .ensures) (at-put-key .put-key .ensures)
 
 pub put-line-spec : {M : Type 1} → statement M
 put-line-spec =

@@ -27,7 +27,12 @@ same-length : tie.Need-same-length
 same-length c = search needs
 
 returns : tie.Need-returns
-returns c = placed-memory (now (c .before .before .before .before .before .before .before .before .before .before .before .before .before .before .before .before .args .values)) (c .before .before .before .before .before .before .before .before .before .before .before .before .before .before .before .before .pre .0) (c .before .before .before .before .before .before .before .before .before .before .before .put-field .ensures) (c .before .before .before .before .before .before .before .put-values .ensures) (c .before .before .put-key .ensures)
+returns c =
+    let at-put-key = c .before .before in
+    let at-put-values = at-put-key .before .before .before .before .before in
+    let at-put-field = at-put-values .before .before .before .before in
+    let start = at-put-field .before .before .before .before .before in
+    placed-memory (now (start .args .values)) (start .pre .0) (at-put-field .put-field .ensures) (at-put-values .put-values .ensures) (at-put-key .put-key .ensures)
 
 pub put-memory-spec : {M : Type 1} → statement M
 put-memory-spec =

@@ -26,7 +26,12 @@ same-length : tie.Need-same-length
 same-length c = search needs
 
 returns : tie.Need-returns
-returns c = placed-record (c .before .before .before .before .before .before .before .before .before .before .before .before .before .before .before .before .args .channel) (c .before .before .before .before .before .before .before .before .before .before .before .before .before .before .before .before .args .value) (c .before .before .before .before .before .before .before .before .before .before .before .before .put-field .ensures) (c .before .before .before .before .before .before .before .put-field2 .ensures) (c .before .before .put-key .ensures)
+returns c =
+    let at-put-key = c .before .before in
+    let at-put-field2 = at-put-key .before .before .before .before .before in
+    let at-put-field = at-put-field2 .before .before .before .before .before in
+    let start = at-put-field .before .before .before .before in
+    placed-record (start .args .channel) (start .args .value) (at-put-field .put-field .ensures) (at-put-field2 .put-field2 .ensures) (at-put-key .put-key .ensures)
 
 pub put-record-spec : {M : Type 1} → statement M
 put-record-spec =

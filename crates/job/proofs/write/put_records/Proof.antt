@@ -46,7 +46,11 @@ shared-slice-read-put-record-2 : tie.Need-shared-slice-read-put-record-2 Inv-loo
 shared-slice-read-put-record-2 c = search needs
 
 put-record-requires : tie.Need-put-record-requires Inv-loop μ-loop
-put-record-requires c κs = omega (arith, c .before .before .before .before .loop .inv .1, c .before .before .before .before .loop .inv .2, c .before .before .before .loop-test .taken, c .before .before .before .before .before .before .before .pre .1)
+put-record-requires c κs =
+    let at-loop-test = c .before .before .before in
+    let at-loop = at-loop-test .before in
+    let start = at-loop .before .before .before in
+    omega (arith, at-loop .loop .inv .1, at-loop .loop .inv .2, at-loop-test .loop-test .taken, start .pre .1)
 
 add-i : tie.Need-add-i Inv-loop μ-loop
 add-i c = search needs
@@ -56,12 +60,14 @@ loop-less c = search needs
 
 loop-again : tie.Need-loop-again Inv-loop μ-loop
 loop-again c =
+    let at-put-record = c .before .before in
+    let at-loop-test = at-put-record .before .before .before .before in
     let loop = c .before .before .before .before .before .before .before in
     let start = c .before .before .before .before .before .before .before .before .before .before in (
-      omega (arith, c .before .before .before .before .before .before .loop-test .taken),
-      omega (arith, loop .loop .inv .1, c .before .before .put-record .ensures .place, c .before .before .put-record .ensures .few),
-      c .before .before .put-record .kept .0 ∙ loop .loop .inv .2,
-      records-again (start .args .records) (now (start .args .trace)) (loop .loop .i) (start .pre .0) (c .before .before .before .before .before .before .loop-test .taken) (loop .loop .inv .3) (c .before .before .put-record .ensures),
+      omega (arith, at-loop-test .loop-test .taken),
+      omega (arith, loop .loop .inv .1, at-put-record .put-record .ensures .place, at-put-record .put-record .ensures .few),
+      at-put-record .put-record .kept .0 ∙ loop .loop .inv .2,
+      records-again (start .args .records) (now (start .args .trace)) (loop .loop .i) (start .pre .0) (at-loop-test .loop-test .taken) (loop .loop .inv .3) (at-put-record .put-record .ensures),
     )
 
 same-length : tie.Need-same-length Inv-loop μ-loop

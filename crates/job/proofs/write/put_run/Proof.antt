@@ -28,9 +28,14 @@ same-length c = search needs
 
 returns : tie.Need-returns
 returns c =
-    let args = c .before .before .before .before .before .before .before .before .before .before .before .before .before .before .before .before .before .before .before .before .before .before .args in
-    placed-run (args .verdict) (args .place) (args .answer) (now (args .trace)) (c .before .before .before .before .before .before .before .before .before .before .before .before .before .before .before .before .before .before .before .before .before .before .pre .0) (c .before .before .before .before .before .before .before .before .before .before .before .before .before .before .before .before .before .put-head .ensures)
-    (c .before .before .before .before .before .before .before .before .before .before .before .put-memory .ensures) (c .before .before .before .before .before .before .put-line .ensures) (c .before .before .put-records .ensures)
+    let at-put-records = c .before .before in
+    let at-put-line = at-put-records .before .before .before .before in
+    let at-put-memory = at-put-line .before .before .before .before .before in
+    let at-put-head = at-put-memory .before .before .before .before .before .before in
+    let start = at-put-head .before .before .before .before .before in
+    let args = start .args in
+    placed-run (args .verdict) (args .place) (args .answer) (now (args .trace)) (start .pre .0) (at-put-head .put-head .ensures)
+    (at-put-memory .put-memory .ensures) (at-put-line .put-line .ensures) (at-put-records .put-records .ensures)
 
 pub put-run-spec : {M : Type 1} → statement M
 put-run-spec =

@@ -32,7 +32,10 @@ element-copy-out-put-value : tie.Need-element-copy-out-put-value Inv-loop μ-loo
 element-copy-out-put-value c = search needs
 
 put-value-requires : tie.Need-put-value-requires Inv-loop μ-loop
-put-value-requires c κs = omega (arith, c .before .before .before .loop .inv .2, c .before .before .before .loop .inv .3, c .before .before .before .before .before .pre .1)
+put-value-requires c κs =
+    let at-loop = c .before .before .before in
+    let start = at-loop .before .before in
+    omega (arith, at-loop .loop .inv .2, at-loop .loop .inv .3, start .pre .1)
 
 add-i : tie.Need-add-i Inv-loop μ-loop
 add-i c = search needs
@@ -42,13 +45,16 @@ loop-less c = search needs
 
 loop-again : tie.Need-loop-again Inv-loop μ-loop
 loop-again c =
+    let at-put-value = c .before .before in
+    let at-loop-test = at-put-value .before .before .before in
+    let start = at-loop-test .before .before .before in
     let loop = c .before .before .before .before .before .before in
-    let args = c .before .before .before .before .before .before .before .before .args in (
+    let args = start .args in (
       omega (arith, loop .loop .inv .0),
-      omega (arith, c .before .before .before .before .before .loop-test .taken),
-      omega (arith, loop .loop .inv .0, loop .loop .inv .2, c .before .before .put-value .ensures .place, c .before .before .put-value .ensures .few),
-      c .before .before .put-value .kept .0 ∙ loop .loop .inv .3,
-      values-again (now (args .values)) (loop .loop .i) (c .before .before .before .before .before .before .before .before .pre .0) (c .before .before .before .before .before .loop-test .taken) (loop .loop .inv .4) (c .before .before .put-value .ensures),
+      omega (arith, at-loop-test .loop-test .taken),
+      omega (arith, loop .loop .inv .0, loop .loop .inv .2, at-put-value .put-value .ensures .place, at-put-value .put-value .ensures .few),
+      at-put-value .put-value .kept .0 ∙ loop .loop .inv .3,
+      values-again (now (args .values)) (loop .loop .i) (start .pre .0) (at-loop-test .loop-test .taken) (loop .loop .inv .4) (at-put-value .put-value .ensures),
     )
 
 same-length : tie.Need-same-length Inv-loop μ-loop

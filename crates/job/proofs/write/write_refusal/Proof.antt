@@ -31,9 +31,13 @@ same-length c = search needs
 returns-2 : tie.Need-returns-2
 unfolding refusalWritten
 returns-2 c =
-    let args = c .before .before .before .before .before .before .before .before .before .before .before .before .args in
-    written-whole mostRefusal (refusalText (args .number) (args .at)) (now (args .out)) (c .before .before .put-line2 .result) (c .before .before .put-line2 .last .0)
-    (c .before .before .before .before .before .before .before .before .before .before .if1 .left) (placed-refusal (args .number) (args .at) (c .before .before .before .before .before .before .before .put-line .ensures) (c .before .before .put-line2 .ensures))
+    let at-put-line2 = c .before .before in
+    let at-put-line = at-put-line2 .before .before .before .before .before in
+    let at-if1 = at-put-line .before .before .before in
+    let start = at-if1 .before .before in
+    let args = start .args in
+    written-whole mostRefusal (refusalText (args .number) (args .at)) (now (args .out)) (at-put-line2 .put-line2 .result) (at-put-line2 .put-line2 .last .0)
+    (at-if1 .if1 .left) (placed-refusal (args .number) (args .at) (at-put-line .put-line .ensures) (at-put-line2 .put-line2 .ensures))
 
 pub write-refusal-spec : {M : Type 1} → statement M
 write-refusal-spec =

@@ -28,10 +28,12 @@ add-if2 c = search needs
 
 returns-2 : tie.Need-returns-2
 returns-2 c =
-    let args = c .before .before .before .before .before .args in
+    let at-if1 = c .before in
+    let start = at-if1 .before .before .before .before in
+    let args = start .args in
     let text = runText (args .verdict) (args .place) (wholeOf (args .answer) (now (args .trace))) in
     written-short (mostRun (args .answer .records)) text (now (args .out)) (c .if2 .taken)
-    ∙ run-counted (args .answer .records) text (now (args .trace)) (now (args .out)) (c .before .if1 .left)
+    ∙ run-counted (args .answer .records) text (now (args .trace)) (now (args .out)) (at-if1 .if1 .left)
 
 put-run-requires : tie.Need-put-run-requires
 put-run-requires c κs = search needs
@@ -41,11 +43,15 @@ same-length c = search needs
 
 returns-3 : tie.Need-returns-3
 returns-3 c =
-    let args = c .before .before .before .before .before .before .before .before .before .args in
+    let at-put-run = c .before .before in
+    let at-if2 = at-put-run .before .before in
+    let at-if1 = at-if2 .before in
+    let start = at-if1 .before .before .before .before in
+    let args = start .args in
     let text = runText (args .verdict) (args .place) (wholeOf (args .answer) (now (args .trace))) in
-    written-whole (mostRun (args .answer .records)) text (now (args .out)) (c .before .before .put-run .result) (c .before .before .put-run .last .1 .1 .1 .1 .0) (c .before .before .before .before .if2 .left)
-    (c .before .before .put-run .ensures)
-    ∙ run-counted (args .answer .records) text (now (args .trace)) (now (args .out)) (c .before .before .before .before .before .if1 .left)
+    written-whole (mostRun (args .answer .records)) text (now (args .out)) (at-put-run .put-run .result) (at-put-run .put-run .last .1 .1 .1 .1 .0) (at-if2 .if2 .left)
+    (at-put-run .put-run .ensures)
+    ∙ run-counted (args .answer .records) text (now (args .trace)) (now (args .out)) (at-if1 .if1 .left)
 
 pub write-run-spec : {M : Type 1} → statement M
 write-run-spec =
