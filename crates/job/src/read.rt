@@ -7,14 +7,15 @@ ghost use mathlib.Core.Bool.{true};
 ghost use mathlib.Core.List.{[], _∷_};
 ghost use Prim.Native.Nat.{_+_, _-_, _*_, _≤_, _<_, min};
 ghost use lib.ListN.{length, take, drop};
+ghost use lib.Seq.{sets};
 ghost use Rattle.rules.specs.Limits.{width, rowWords, mostRows};
 ghost use Rattle.job.specs.Limits.{mostWord, tableWords, firstInput};
 ghost use Rattle.job.specs.Numbers.{zeroByte, beyond, isDigit, digitsOn, numberAt};
 ghost use Rattle.job.specs.Lines.{afterKey, field, fields, ended, lineOf, linesOf};
 ghost use Rattle.job.specs.Jobs.{untold, inLine, rowLine, readTable, readInputs, readCount, readLevels, readRoom, readJob};
-ghost use lib.Seq.{sets};
 ghost use Rattle.job.specs.Read.{keySaid, fieldSaid, lineSaid, rowSaid, LinesRead, filled, reading};
 
+// Document 01's numbers of a job, as `specs/Limits` has them.
 const MOST_BYTES: usize = 32768;
 
 const MOST_WORD: u64 = 4294967295;
