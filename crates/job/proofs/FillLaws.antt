@@ -1,0 +1,107 @@
+-- Laws of lines that are read one after the other into a buffer.
+use Prim.Native.Nat.{ℕ, suc, _+_, _-_, _≤_, _<_}
+use native.Mathlib.Omega.{arith}
+use mathlib.Core.List.{List, [], _∷_, _++_}
+use mathlib.Core.Path.{_≡_, refl, sym, ap, ap₂, _∙_}
+use lib.ListN.{length, take, drop, set, length-append}
+use lib.Seq.{sets, sets-eq, length-sets, length-take-le, take-at, drop-set-lt}
+use Rattle.job.specs.declared.read.Lines.{Lines as Answer}
+use Rattle.job.specs.Read.{LinesRead}
+use Rattle.job.specs.Lines.{Line, line, faulty, lines, broken, onLine, linesOf}
+
+-- ---- lines, from line i of count on; before are the numbers of those before it
+
+module _ (form : List ℕ → Line) (count first i : ℕ) (before text : List ℕ) where
+  lines-more : i < count
+      → linesOf form (count - i) (first + i) before text ≡ onLine (linesOf form (count - (i + 1)) (first + (i + 1))) (first + i) before (form text)
+  unfolding linesOf
+  lines-more h =
+      let n : count - i ≡ suc (count - (i + 1)) = omega arith in
+      let k : first + i + 1 ≡ first + (i + 1) = omega arith in
+      ap (λ (m : ℕ). linesOf form m (first + i) before text) n
+      ∙ ap (λ (j : ℕ). onLine (linesOf form (count - (i + 1)) j) (first + i) before (form text)) k
+
+  pub lines-again : (values rest after : List ℕ) → i < count → line values rest ≡ form text → after ≡ before ++ values
+      → linesOf form (count - (i + 1)) (first + (i + 1)) after rest ≡ linesOf form (count - i) (first + i) before text
+  unfolding onLine
+  lines-again values rest after h e a =
+      ap (λ (b : List ℕ). linesOf form (count - (i + 1)) (first + (i + 1)) b rest) a
+      ∙ ap (onLine (linesOf form (count - (i + 1)) (first + (i + 1))) (first + i) before) e
+      ∙ sym (lines-more h)
+
+  pub lines-stop : (refusal : ℕ) → i < count → faulty refusal ≡ form text
+      → broken refusal (first + i) ≡ linesOf form (count - i) (first + i) before text
+  unfolding onLine
+  lines-stop refusal h e = ap (onLine (linesOf form (count - (i + 1)) (first + (i + 1))) (first + i) before) e ∙ sym (lines-more h)
+
+  pub lines-done : count ≤ i → lines before text ≡ linesOf form (count - i) (first + i) before text
+  unfolding linesOf
+  lines-done h =
+      let n : 0 ≡ count - i = omega arith in
+      ap (λ (m : ℕ). linesOf form m (first + i) before text) n
+
+pub lines-start : (form : List ℕ → Line) (count first : ℕ) (text : List ℕ)
+    → linesOf form (count - 0) (first + 0) [] text ≡ linesOf form count first [] text
+lines-start form count first text =
+    let n : count - 0 ≡ count = omega arith in
+    let k : first + 0 ≡ first = omega arith in
+    ap₂ (λ (m j : ℕ). linesOf form m j [] text) n k
+
+-- ---- the buffer
+
+pub take-sets : (words : List ℕ) (at n : ℕ) (values : List ℕ) → n ≡ at + length values → n ≤ length words
+    → take n (sets words at values) ≡ take at words ++ values
+take-sets words at n values e h =
+    let front : length (take at words ++ values) ≡ n =
+    length-append (take at words) values ∙ ap (λ (k : ℕ). k + length values) (length-take-le at words (omega arith)) ∙ sym e in
+    ap (take n) (sets-eq values words at (omega arith)) ∙ take-at (take at words ++ values) (drop (at + length values) words) n front
+
+pub drop-sets : (values words : List ℕ) (at n : ℕ) → at + length values ≤ n → drop n (sets words at values) ≡ drop n words
+drop-sets [] words at n h = refl
+drop-sets (v ∷ values) words at n h = drop-sets values (set words at v) (suc at) n (omega arith) ∙ drop-set-lt n words at v (omega arith)
+
+-- ---- a loop over lines: i of count lines are read, their numbers are the first done of the buffer's words, and what is left
+-- of the lines leads to all of them
+
+pub record Filling (form : List ℕ → Line) (count first all : ℕ) (text : List ℕ) (from : ℕ) (words₀ words : List ℕ) (at i done : ℕ) : Type 0 where
+  pub within : i ≤ count
+  pub same : length words ≡ length words₀
+  pub kept : drop all words ≡ drop all words₀
+  pub leads : linesOf form (count - i) (first + i) (take done words) (drop at text) ≡ linesOf form count first [] (drop from text)
+
+module _ (form : List ℕ → Line) (count first all : ℕ) (text : List ℕ) (from : ℕ) (words₀ : List ℕ) where
+  pub filling-start : Filling form count first all text from words₀ words₀ from 0 0
+  filling-start = record { within = omega arith; same = refl; kept = refl; leads = lines-start form count first (drop from text) }
+
+  pub filling-again : {words left : List ℕ} {at i done next more : ℕ} (values : List ℕ) → i < count → line values (drop next text) ≡ form (drop at text)
+      → left ≡ sets words done values → more ≡ done + length values → more ≤ all → all ≤ length words₀
+      → Filling form count first all text from words₀ words at i done → Filling form count first all text from words₀ left next (i + 1) more
+  filling-again {words} {left} {at} {i} {done} {next} {more} values h e put n room fits f = record {
+    within = omega arith;
+    same = ap length put ∙ length-sets words done values ∙ f .same;
+    kept = ap (drop all) put ∙ drop-sets values words done all (omega (arith, n, room)) ∙ f .kept;
+    leads =
+        lines-again form count first i (take done words) (drop at text) values (drop next text) (take more left) h e
+        (ap (take more) put ∙ take-sets words done more values n (omega (arith, room, fits, f .same)))
+        ∙ f .leads;
+  }
+
+  pub filling-stop : {words : List ℕ} {at i done : ℕ} (refusal : ℕ) → i < count → faulty refusal ≡ form (drop at text)
+      → Filling form count first all text from words₀ words at i done
+      → LinesRead text all words₀ words (Answer.Faulty refusal (first + i)) (linesOf form count first [] (drop from text))
+  filling-stop {words} {at} {i} {done} refusal h e f = record {
+    said = lines-stop form count first i (take done words) (drop at text) refusal h e ∙ f .leads;
+    kept = f .kept;
+    same = f .same;
+  }
+
+  pub filling-done : {words : List ℕ} {at i done : ℕ} → count ≤ i → all ≡ done → Filling form count first all text from words₀ words at i done
+      → LinesRead text all words₀ words (Answer.Next at) (linesOf form count first [] (drop from text))
+  filling-done {words} {at} {i} {done} h e f = record {
+    said =
+        ap (λ (n : ℕ). lines (take n words) (drop at text)) e
+        ∙ lines-done form count first i (take done words) (drop at text) h
+        ∙ f .leads;
+    kept = f .kept;
+    same = f .same;
+  }

@@ -1,0 +1,154 @@
+-- Laws of a job that is read line by line: what each faulty line refuses, and what a whole job leaves.
+use Prim.Native.Nat.{ℕ, zero, suc, _+_, _-_, _*_, _/_, _≤_, _<_}
+use native.Mathlib.Omega.{arith}
+use mathlib.Core.Bool.{Bool, true, false}
+use mathlib.Core.List.{List, [], _∷_, _++_}
+use mathlib.Core.Path.{_≡_, refl, sym, ap, ap₂, _∙_}
+use lib.Dec.{leb}
+use lib.ListN.{length, take, drop, replicate, take-append-drop, drop-of-length-le}
+use lib.Seq.{length-take-le}
+use borrow.Author.Tests.{leb-true, lt-ltb, le-ltb}
+use Rattle.rules.specs.declared.Memory.{Memory}
+use Rattle.rules.specs.Limits.{width, rowWords, mostRows, mostJobBytes}
+use Rattle.job.specs.declared.read.Read.{Read}
+use Rattle.job.specs.declared.read.Reading.{Reading}
+use Rattle.job.specs.Limits.{tableWords, lacksForm, tooLong, firstInput}
+use Rattle.job.specs.Lines.{After, absent, after, afterKey, lineEnd, rowsKey, Fields, noFields, fields, fieldsOf, Line, line, faulty, inRange, closed, ended, lineOf, Lines, lines, broken, linesOf}
+use Rattle.job.specs.Jobs.{Job, Told, told, untold, one, many, finish, inLine, rowLine, readTable, readInputs, readBudget, sized, readJob}
+use Rattle.job.specs.Read.{filled, reading}
+use Rattle.job.proofs.NumberLaws.{drop-at, both-true}
+
+-- ---- the range of what was read
+
+closed-range : (a : After) (b : Bool) (values vs rest : List ℕ) → line vs rest ≡ closed a b values → (b ≡ true) × (vs ≡ values)
+unfolding closed
+closed-range absent b values vs rest e = let z : _≡_ {A = ℕ} 0 1 = cc in absurd (omega arith)
+closed-range (after text) false values vs rest e = let z : _≡_ {A = ℕ} 0 1 = cc in absurd (omega arith)
+closed-range (after text) true values vs rest e = (refl, cc)
+
+ended-range : (most : ℕ) (f : Fields) (vs rest : List ℕ) → line vs rest ≡ ended most f → inRange most vs ≡ true
+unfolding ended
+ended-range most noFields vs rest e = let z : _≡_ {A = ℕ} 0 1 = cc in absurd (omega arith)
+ended-range most (fields values text) vs rest e =
+    let r = closed-range (afterKey lineEnd text) (inRange most values) values vs rest e in
+    ap (inRange most) (r .1) ∙ r .0
+
+-- a line of one number: the number is in range
+pub line-within : (keys : List (List ℕ)) (most value : ℕ) (text rest : List ℕ) → line (value ∷ []) rest ≡ lineOf keys most text → value ≤ most
+unfolding lineOf inRange
+line-within keys most value text rest e =
+    leb-true value most (both-true (leb value most) true (ended-range most (fieldsOf keys text) (value ∷ []) rest e) .0)
+
+-- ---- one line of a number, and what follows
+
+pub one-refused : (at : ℕ) (l : Line) (more : ℕ → List ℕ → Told) (refusal : ℕ) → faulty refusal ≡ l → untold refusal at ≡ one at l more
+unfolding one
+one-refused at l more refusal e = ap (λ (x : Line). one at x more) e
+
+pub one-told : (at : ℕ) (l : Line) (more : ℕ → List ℕ → Told) (value : ℕ) (rest : List ℕ) → line (value ∷ []) rest ≡ l
+    → more value rest ≡ one at l more
+unfolding one
+one-told at l more value rest e = ap (λ (x : Line). one at x more) e
+
+-- ---- the table
+
+module _ (budget room marks at : ℕ) (inputs text : List ℕ) where
+  pub table-uncounted : (refusal : ℕ) → faulty refusal ≡ lineOf (rowsKey ∷ []) mostRows text
+      → untold refusal at ≡ readTable budget room marks at inputs text
+  unfolding readTable
+  table-uncounted refusal e = one-refused at (lineOf (rowsKey ∷ []) mostRows text) _ refusal e
+
+  abbrev jobOf : List ℕ → Job
+  jobOf words = record { budget = budget; room = room; marks = marks; inputs = inputs; table = words }
+
+  module _ (rows first : ℕ) (rest : List ℕ) (count : line (rows ∷ []) rest ≡ lineOf (rowsKey ∷ []) mostRows text) (next : first ≡ at + 1) where
+    table-lines : (l : Lines) → l ≡ linesOf rowLine rows first [] rest
+        → many l (λ words end. finish (at + 1 + rows) (jobOf words) end) ≡ readTable budget room marks at inputs text
+    unfolding readTable
+    table-lines l e =
+        ap (λ (x : Lines). many x (λ words end. finish (at + 1 + rows) (jobOf words) end)) (e ∙ ap (λ (k : ℕ). linesOf rowLine rows k [] rest) next)
+        ∙ one-told at (lineOf (rowsKey ∷ []) mostRows text) _ rows rest count
+
+    pub table-broken : (refusal bad : ℕ) → broken refusal bad ≡ linesOf rowLine rows first [] rest
+        → untold refusal bad ≡ readTable budget room marks at inputs text
+    unfolding many
+    table-broken refusal bad e = table-lines (broken refusal bad) e
+
+    pub table-further : (words all : List ℕ) (end : ℕ) → lines words (drop end all) ≡ linesOf rowLine rows first [] rest → end < length all
+        → untold lacksForm (first + rows) ≡ readTable budget room marks at inputs text
+    unfolding many finish
+    table-further words all end e h =
+        ap (λ (k : ℕ). untold lacksForm (k + rows)) next
+        ∙ sym (ap (finish (at + 1 + rows) (jobOf words)) (drop-at all end h))
+        ∙ table-lines (lines words (drop end all)) e
+
+    pub table-told : (words all : List ℕ) (end : ℕ) → lines words (drop end all) ≡ linesOf rowLine rows first [] rest → length all ≤ end
+        → told (jobOf words) ≡ readTable budget room marks at inputs text
+    unfolding many finish
+    table-told words all end e h =
+        sym (ap (finish (at + 1 + rows) (jobOf words)) (drop-of-length-le all h)) ∙ table-lines (lines words (drop end all)) e
+
+-- ---- the inputs
+
+module _ (budget room marks inputs : ℕ) (text : List ℕ) where
+  pub inputs-broken : (refusal bad : ℕ) → broken refusal bad ≡ linesOf inLine inputs firstInput [] text
+      → untold refusal bad ≡ readInputs budget room marks inputs text
+  unfolding readInputs many
+  inputs-broken refusal bad e = ap (λ (l : Lines). many l (readTable budget room marks (firstInput + inputs))) e
+
+  pub inputs-told : (values rest : List ℕ) → lines values rest ≡ linesOf inLine inputs firstInput [] text
+      → readTable budget room marks (firstInput + inputs) values rest ≡ readInputs budget room marks inputs text
+  unfolding readInputs many
+  inputs-told values rest e = ap (λ (l : Lines). many l (readTable budget room marks (firstInput + inputs))) e
+
+-- ---- the size of the text
+
+pub job-long : (text : List ℕ) → mostJobBytes < length text → untold tooLong 0 ≡ readJob text
+unfolding readJob sized
+job-long text h = ap (λ (b : Bool). sized b text) (sym (lt-ltb mostJobBytes (length text) h))
+
+pub job-sized : (text : List ℕ) → length text ≤ mostJobBytes → readBudget text ≡ readJob text
+unfolding readJob sized
+job-sized text h = ap (λ (b : Bool). sized b text) (sym (le-ltb mostJobBytes (length text) h))
+
+-- ---- what is left in memory and table
+
+zeros : ℕ → List ℕ
+zeros n = replicate n 0
+
+drop-zeros : (n size : ℕ) → drop n (zeros size) ≡ zeros (size - n)
+unfolding zeros
+drop-zeros zero size =
+    let k : size ≡ size - 0 = omega arith in
+    ap zeros k
+drop-zeros (suc n) zero =
+    let k : 0 ≡ 0 - suc n = omega arith in
+    ap zeros k
+drop-zeros (suc n) (suc size) =
+    let k : size - n ≡ suc size - suc n = omega arith in
+    drop-zeros n size ∙ ap zeros k
+
+-- words whose first n were put where all were 0
+pub filled-front : (size n : ℕ) (words : List ℕ) → n ≤ size → length words ≡ size → drop n words ≡ drop n (replicate size 0)
+    → words ≡ filled size (take n words)
+unfolding filled zeros
+filled-front size n words h same kept =
+    let k : size - n ≡ size - length (take n words) = ap (λ (m : ℕ). size - m) (sym (length-take-le n words (omega arith))) in
+    sym (take-append-drop n words)
+    ∙ ap (λ (l : List ℕ). take n words ++ l) (kept ∙ drop-zeros n size ∙ ap zeros k)
+
+pub rows-counted : (rows : ℕ) (words : List ℕ) → rowWords * rows ≤ length words → rows ≡ length (take (rowWords * rows) words) / rowWords
+rows-counted rows words h =
+    let n = length-take-le (rowWords * rows) words h in
+    omega arith
+
+pub reading-told : (budget room marks rows : ℕ) (memory : Memory) (table inputs words : List ℕ) → memory .words ≡ filled width inputs
+    → table ≡ filled tableWords words → rows ≡ length words / rowWords
+    → _≡_ {A = Reading} (record { read = Read.Job budget room marks rows; memory = memory; table = table })
+    (reading (told (record { budget = budget; room = room; marks = marks; inputs = inputs; table = words })))
+unfolding reading
+reading-told budget room marks rows memory table inputs words m t r =
+    ap (λ (k : ℕ). whole k (memory .words) table) r ∙ ap₂ (whole (length words / rowWords)) m t
+  where
+    whole : ℕ → List ℕ → List ℕ → Reading
+    whole k ws ts = record { read = Read.Job budget room marks k; memory = record { words = ws }; table = ts }

@@ -1,0 +1,63 @@
+-- What the reader's answers say, in the words of the definitions: a place stands for the text from there on.
+use Prim.Native.Nat.{ℕ, _-_, _/_}
+use mathlib.Core.Path.{_≡_}
+use mathlib.Core.List.{List, [], _∷_, _++_}
+use lib.ListN.{length, take, drop, replicate}
+use Rattle.rules.specs.Limits.{width, rowWords}
+use Rattle.job.specs.declared.read.Key.{Key}
+use Rattle.job.specs.declared.read.Field.{Field}
+use Rattle.job.specs.declared.read.Line.{Line}
+use Rattle.job.specs.declared.read.RowLine.{RowLine}
+use Rattle.job.specs.declared.read.Lines.{Lines}
+use Rattle.job.specs.declared.read.Read.{Read}
+use Rattle.job.specs.declared.read.Reading.{Reading}
+use Rattle.job.specs.Limits.{tableWords}
+use Rattle.job.specs.Jobs.{Told, told, untold}
+use Rattle.job.specs.Numbers.{Number, noNumber, number}
+use Rattle.job.specs.Lines as spec
+
+abbrev pub keySaid : List ℕ → Key → spec.After
+keySaid text Key.Absent = spec.absent
+keySaid text (Key.Next next) = spec.after (drop next text)
+
+abbrev pub fieldSaid : List ℕ → Field → Number
+fieldSaid text Field.Nothing = noNumber
+fieldSaid text (Field.Number value next) = number value (drop next text)
+
+abbrev pub lineSaid : List ℕ → Line → spec.Line
+lineSaid text (Line.Number value next) = spec.line (value ∷ []) (drop next text)
+lineSaid text (Line.Faulty refusal) = spec.faulty refusal
+
+abbrev pub rowSaid : List ℕ → RowLine → spec.Line
+rowSaid text (RowLine.Row k p q r next) = spec.line (k ∷ p ∷ q ∷ r ∷ []) (drop next text)
+rowSaid text (RowLine.Faulty refusal) = spec.faulty refusal
+
+-- values is the buffer that the lines' numbers were put into, so many of them
+abbrev pub linesSaid : List ℕ → ℕ → List ℕ → Lines → spec.Lines
+linesSaid text count values (Lines.Next next) = spec.lines (take count values) (drop next text)
+linesSaid text count values (Lines.Faulty refusal at) = spec.broken refusal at
+
+-- What reading lines into a buffer comes to: count numbers at most stand at its front, and the rest of it is kept.
+pub record LinesRead (text : List ℕ) (count : ℕ) (before left : List ℕ) (answer : Lines) (told : spec.Lines) : Type 0 where
+  pub said : linesSaid text count left answer ≡ told
+  pub kept : drop count left ≡ drop count before
+  pub same : length left ≡ length before
+
+-- ---- the reader's whole answer
+
+-- the values at the front of so many words, the others 0
+unfoldable pub filled : ℕ → List ℕ → List ℕ
+filled size values = values ++ replicate (size - length values) 0
+
+-- "(others 0)" A refused job leaves nothing: every word of memory and table is 0.
+unfoldable pub reading : Told → Reading
+reading (told job) = record {
+  read = Read.Job (job .budget) (job .room) (job .marks) (length (job .table) / rowWords);
+  memory = record { words = filled width (job .inputs) };
+  table = filled tableWords (job .table);
+}
+reading (untold refusal at) = record {
+  read = Read.Refused refusal at;
+  memory = record { words = filled width [] };
+  table = filled tableWords [];
+}
