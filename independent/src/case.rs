@@ -1,0 +1,74 @@
+//! Table cases: questions that a job cannot put, in lines like a job's.
+
+use crate::job::{end_lines, list, refusal_lines, Lines, LACKS_FORM, OUT_OF_RANGE};
+use crate::levels::{levels, Outcome};
+use crate::marks::VARIABLES;
+use crate::run::run;
+use crate::table::{judge, Refusal};
+use crate::tree::{Memory, Operator};
+
+/// Answers a case; a case that lacks its form is refused as a job line would be.
+pub fn answer(input: &[u8]) -> Result<String, Refusal> {
+    let mut lines = Lines::of(input);
+    let answer = match lines.word("ask")? {
+        b"judge" => judge_answer(&counted(&mut lines, "count", "words")?),
+        b"run" => run_answer(&mut lines)?,
+        b"levels" => {
+            let words = counted(&mut lines, "count", "words")?;
+            levels_answer(&words, lines.number("levels", u32::MAX)?)
+        }
+        b"operator" => operator_answer(&mut lines)?,
+        _ => return Err(fault(LACKS_FORM, 1)),
+    };
+    lines.end()?;
+    Ok(answer)
+}
+
+fn fault(number: u32, at: u32) -> Refusal {
+    Refusal { number, at }
+}
+
+/// A count on one line and so many numbers on the next.
+fn counted(lines: &mut Lines, count: &str, key: &str) -> Result<Vec<u32>, Refusal> {
+    let count = lines.number(count, u32::MAX)?;
+    lines.numbers(key, count as usize, u32::MAX)
+}
+
+pub fn judge_answer(words: &[u32]) -> String {
+    let accepted = Refusal { number: 0, at: 0 };
+    refusal_lines(judge(words).err().unwrap_or(accepted))
+}
+
+pub fn levels_answer(words: &[u32], marks: u32) -> String {
+    let (outcome, marks) = levels(words, marks);
+    let first = match outcome {
+        Outcome::Refused(refusal) => refusal_lines(refusal),
+        Outcome::Pass => "failed=0\nat=0\n".to_string(),
+        Outcome::Fail { row } => format!("failed=1\nat={row}\n"),
+    };
+    first + &format!("levels={marks}\n")
+}
+
+fn run_answer(lines: &mut Lines) -> Result<String, Refusal> {
+    let words = counted(lines, "count", "words")?;
+    let mut memory: Memory = [0; VARIABLES];
+    memory.copy_from_slice(&lines.numbers("mem", VARIABLES, u32::MAX)?);
+    let marks = lines.number("levels", u32::MAX)?;
+    let budget = lines.number("budget", u32::MAX)?;
+    let mut trace = counted(lines, "lent", "trace")?;
+    let (answer, marks) = run(&words, memory, marks, budget, &mut trace);
+    let mut text = end_lines(&answer.end);
+    text += &format!("steps={}\nlevels={marks}\n", answer.steps);
+    text += &format!("mem={}\n", list(&answer.memory));
+    text += &format!("records={}\n", answer.records);
+    text += &format!("lent={}\ntrace={}\n", trace.len(), list(&trace));
+    Ok(text)
+}
+
+fn operator_answer(lines: &mut Lines) -> Result<String, Refusal> {
+    let operator = lines.number("operator", u32::MAX)?;
+    let operator = Operator::numbered(operator).ok_or(fault(OUT_OF_RANGE, 2))?;
+    let left = lines.number("left", u32::MAX)?;
+    let right = lines.number("right", u32::MAX)?;
+    Ok(format!("value={}\n", operator.value(left, right)))
+}

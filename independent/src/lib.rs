@@ -1,0 +1,12 @@
+//! Recipe runs under watch: a second statement of document 01, by walks over trees.
+
+pub mod case;
+pub mod job;
+pub mod levels;
+pub mod marks;
+pub mod random;
+pub mod recipes;
+pub mod run;
+pub mod table;
+pub mod tree;
+pub mod vectors;

@@ -1,0 +1,213 @@
+//! The vectors: inputs made by code, expected outputs answered by this implementation.
+//! The document's limits are written out here, as inputs, and not taken from the code.
+
+mod checks;
+mod document;
+mod lines;
+mod runs;
+mod tables;
+
+use std::fs;
+use std::io;
+use std::path::Path;
+
+use crate::case;
+use crate::job::{list, report};
+use crate::marks::VARIABLES;
+use crate::recipes::{lay, Part};
+use crate::run::RECORD_WORDS;
+use crate::table::ROW_WORDS;
+
+/// The input lines of the whole case, as the document gives them.
+const WHOLE_CASE: [&str; 12] = [
+    "budget=10",
+    "room=2",
+    "levels=2",
+    "inputs=2",
+    "in=7",
+    "in=9",
+    "rows=5",
+    "row=9,0,0,0",
+    "row=5,0,0,0",
+    "row=9,1,0,0",
+    "row=5,1,2,0",
+    "row=2,1,3,0",
+];
+
+/// A job for the program, or a case for a function that a job does not reach.
+#[derive(Clone, Copy, Debug, PartialEq, Eq)]
+pub enum Form {
+    Job,
+    Case,
+}
+
+/// One input; its name says what it shows.
+pub struct Vector {
+    pub form: Form,
+    pub name: String,
+    pub input: Vec<u8>,
+}
+
+impl Vector {
+    pub fn job(name: &str, input: impl Into<Vec<u8>>) -> Vector {
+        Vector {
+            form: Form::Job,
+            name: name.to_string(),
+            input: input.into(),
+        }
+    }
+
+    pub fn case(name: &str, input: String) -> Vector {
+        Vector {
+            form: Form::Case,
+            name: name.to_string(),
+            input: input.into_bytes(),
+        }
+    }
+
+    /// The report of a job, or the answer of a case.
+    pub fn expected(&self) -> String {
+        match self.form {
+            Form::Job => report(&self.input),
+            Form::Case => case::answer(&self.input)
+                .unwrap_or_else(|fault| format!("faulty case: {fault:?}\n")),
+        }
+    }
+}
+
+pub fn all() -> Vec<Vector> {
+    let groups = [
+        document::vectors(),
+        tables::vectors(),
+        runs::vectors(),
+        checks::vectors(),
+        lines::vectors(),
+    ];
+    groups.into_iter().flatten().collect()
+}
+
+/// Writes every vector below `folder`, in `jobs` and `tables`.
+pub fn write(folder: &Path) -> io::Result<()> {
+    let (jobs, tables) = (folder.join("jobs"), folder.join("tables"));
+    fs::create_dir_all(&jobs)?;
+    fs::create_dir_all(&tables)?;
+    for vector in all() {
+        let (folder, input, output) = match vector.form {
+            Form::Job => (&jobs, "job", "report"),
+            Form::Case => (&tables, "case", "answer"),
+        };
+        let name = &vector.name;
+        fs::write(folder.join(format!("{name}.{input}")), &vector.input)?;
+        fs::write(folder.join(format!("{name}.{output}")), vector.expected())?;
+    }
+    Ok(())
+}
+
+/// All that a run is given. "Unless stated, v0 alone is marked, every variable is 0,
+/// budget 100, room 8."
+#[derive(Clone)]
+pub struct Setting {
+    pub words: Vec<u32>,
+    pub inputs: Vec<u32>,
+    pub levels: u32,
+    pub budget: u32,
+    pub lent: usize,
+}
+
+impl Setting {
+    pub fn of(part: &Part) -> Setting {
+        Setting::of_words(lay(part))
+    }
+
+    pub fn of_words(words: Vec<u32>) -> Setting {
+        Setting {
+            words,
+            inputs: vec![],
+            levels: 1,
+            budget: 100,
+            lent: 16,
+        }
+    }
+
+    /// The values of v0 onward.
+    pub fn inputs(mut self, inputs: &[u32]) -> Setting {
+        self.inputs = inputs.to_vec();
+        self
+    }
+
+    pub fn levels(mut self, levels: u32) -> Setting {
+        self.levels = levels;
+        self
+    }
+
+    pub fn budget(mut self, budget: u32) -> Setting {
+        self.budget = budget;
+        self
+    }
+
+    pub fn room(mut self, room: usize) -> Setting {
+        self.lent = room * RECORD_WORDS;
+        self
+    }
+
+    pub fn lent(mut self, lent: usize) -> Setting {
+        self.lent = lent;
+        self
+    }
+
+    pub fn memory(&self) -> [u32; VARIABLES] {
+        std::array::from_fn(|variable| self.inputs.get(variable).copied().unwrap_or(0))
+    }
+
+    pub fn job_text(&self) -> String {
+        let room = self.lent / RECORD_WORDS;
+        let mut text = format!("budget={}\nroom={room}\n", self.budget);
+        text += &format!("levels={}\ninputs={}\n", self.levels, self.inputs.len());
+        for input in &self.inputs {
+            text += &format!("in={input}\n");
+        }
+        text += &format!("rows={}\n", self.words.len() / ROW_WORDS);
+        for row in self.words.chunks(ROW_WORDS) {
+            text += &format!("row={}\n", list(row));
+        }
+        text
+    }
+
+    /// A run case. The trace holds numbers before the run, so that a word kept and a word
+    /// written can be told apart; a long trace holds zeros, to be short in the file.
+    pub fn case_text(&self) -> String {
+        let old = |at: usize| if self.lent > 64 { 0 } else { 900 + at as u32 };
+        let trace: Vec<u32> = (0..self.lent).map(old).collect();
+        let mut text = format!("ask=run\n{}", words_text(&self.words));
+        text += &format!("mem={}\nlevels={}\n", list(&self.memory()), self.levels);
+        text += &format!("budget={}\n", self.budget);
+        text + &format!("lent={}\ntrace={}\n", self.lent, list(&trace))
+    }
+
+    /// The run as a job and as a case.
+    pub fn both(&self, name: &str) -> [Vector; 2] {
+        [
+            Vector::job(name, self.job_text()),
+            Vector::case(&format!("run-{name}"), self.case_text()),
+        ]
+    }
+}
+
+fn words_text(words: &[u32]) -> String {
+    format!("count={}\nwords={}\n", words.len(), list(words))
+}
+
+pub fn judge_case(name: &str, words: &[u32]) -> Vector {
+    let text = format!("ask=judge\n{}", words_text(words));
+    Vector::case(&format!("judge-{name}"), text)
+}
+
+pub fn levels_case(name: &str, words: &[u32], levels: u32) -> Vector {
+    let text = format!("ask=levels\n{}levels={levels}\n", words_text(words));
+    Vector::case(&format!("levels-{name}"), text)
+}
+
+pub fn operator_case(name: &str, operator: u32, left: u32, right: u32) -> Vector {
+    let text = format!("ask=operator\noperator={operator}\nleft={left}\nright={right}\n");
+    Vector::case(&format!("operator-{name}"), text)
+}

@@ -1,0 +1,88 @@
+//! The program's options, its exit status, and what it prints where.
+
+use std::io::Write;
+use std::process::{Command, Stdio};
+
+const JOB: &str = "budget=10\nroom=2\nlevels=1\ninputs=0\nrows=2\nrow=9,0,0,0\nrow=5,0,0,0\n";
+
+/// Exit status, standard output, and whether anything was said on standard error.
+fn program(arguments: &[&str], input: &str) -> (Option<i32>, String, bool) {
+    let mut program = Command::new(env!("CARGO_BIN_EXE_independent"))
+        .args(arguments)
+        .stdin(Stdio::piped())
+        .stdout(Stdio::piped())
+        .stderr(Stdio::piped())
+        .spawn()
+        .expect("the program starts");
+    let mut standard_input = program.stdin.take().expect("it has an input");
+    // A use that reads no input may end before this is written.
+    let _ = standard_input.write_all(input.as_bytes());
+    drop(standard_input);
+    let output = program.wait_with_output().expect("the program ends");
+    let text = String::from_utf8_lossy(&output.stdout).into_owned();
+    (output.status.code(), text, !output.stderr.is_empty())
+}
+
+fn answers(arguments: &[&str], input: &str, text: &str) {
+    let expected = (Some(0), text.to_string(), false);
+    assert_eq!(program(arguments, input), expected);
+}
+
+#[test]
+fn report() {
+    let zeros = ["0"; 32].join(",");
+    let denied =
+        format!("verdict=1\nplace=1\nsteps=0\nlevels=1\nmarked=1\nmem={zeros}\nrecords=0\n");
+    answers(&[], JOB, &denied);
+    answers(&[], "", "refused=7\nat=1\n");
+    answers(&[], &"9".repeat(100_000), "refused=9\nat=0\n");
+}
+
+#[test]
+fn judge() {
+    answers(&["--judge"], JOB, "refused=0\nat=0\n");
+    let shared = JOB.replace("row=5,0,0,0", "row=10,0,0,0");
+    answers(&["--judge"], &shared, "refused=4\nat=0\n");
+    answers(&["--judge"], "x", "refused=7\nat=1\n");
+}
+
+#[test]
+fn levels() {
+    answers(&["--levels"], JOB, "failed=1\nat=1\nlevels=1\n");
+    let none = JOB.replace("levels=1", "levels=2");
+    answers(&["--levels"], &none, "failed=0\nat=0\nlevels=2\n");
+    let unknown = JOB.replace("row=9", "row=7");
+    answers(&["--levels"], &unknown, "refused=2\nat=0\nlevels=1\n");
+}
+
+#[test]
+fn case() {
+    let operator = "ask=operator\noperator=1\nleft=0\nright=1\n";
+    answers(&["--case"], operator, "value=4294967295\n");
+    let judge = "ask=judge\ncount=0\nwords=\n";
+    answers(&["--case"], judge, "refused=1\nat=0\n");
+}
+
+#[test]
+fn misused() {
+    for arguments in [
+        &["--unknown"][..],
+        &["job"],
+        &["--judge", "x"],
+        &["--vectors"],
+    ] {
+        let (status, text, told) = program(arguments, JOB);
+        assert_eq!((status, text.as_str(), told), (Some(2), "", true));
+    }
+    for case in ["", "ask=x\n", "ask=operator\noperator=6\nleft=0\nright=1\n"] {
+        let (status, text, told) = program(&["--case"], case);
+        assert_eq!((status, text.as_str(), told), (Some(2), "", true));
+    }
+}
+
+#[test]
+fn help() {
+    let (status, text, told) = program(&["--help"], "");
+    assert_eq!((status, told), (Some(0), false));
+    assert!(text.starts_with("usage: independent"));
+}

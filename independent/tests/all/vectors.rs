@@ -1,0 +1,75 @@
+//! The vectors as a whole: one name each, every case in form, every number for no given.
+
+use std::collections::BTreeSet;
+
+use independent::vectors::{all, Form, Vector};
+
+#[test]
+fn names_are_plain_and_single() {
+    let vectors = all();
+    let names: BTreeSet<String> = vectors
+        .iter()
+        .map(|vector| format!("{:?} {}", vector.form, vector.name))
+        .collect();
+    assert_eq!(names.len(), vectors.len());
+    let plain = |byte: u8| byte.is_ascii_lowercase() || byte.is_ascii_digit() || byte == b'-';
+    assert!(vectors.iter().all(|vector| vector.name.bytes().all(plain)));
+}
+
+/// How many expected outputs have this line.
+fn with_line(vectors: &[Vector], form: Form, line: &str) -> usize {
+    let of_form = vectors.iter().filter(|vector| vector.form == form);
+    of_form
+        .filter(|vector| vector.expected().lines().any(|told| told == line))
+        .count()
+}
+
+#[test]
+fn every_answer_is_given() {
+    let vectors = all();
+    for verdict in 0..=3 {
+        let line = format!("verdict={verdict}");
+        assert!(with_line(&vectors, Form::Job, &line) >= 10, "{line}");
+        assert!(with_line(&vectors, Form::Case, &line) >= 10, "{line}");
+    }
+    for number in [1, 2, 3, 4, 5, 7, 8, 9] {
+        let line = format!("refused={number}");
+        assert!(with_line(&vectors, Form::Job, &line) >= 1, "{line}");
+    }
+    for number in 0..=6 {
+        let line = format!("refused={number}");
+        assert!(with_line(&vectors, Form::Case, &line) >= 1, "{line}");
+    }
+    for line in ["failed=0", "failed=1"] {
+        assert!(with_line(&vectors, Form::Case, line) >= 20, "{line}");
+    }
+}
+
+/// The bounds that `vectors/README.md` gives to readers with fixed buffers.
+#[test]
+fn sizes_are_bounded() {
+    let number = |vector: &Vector, key: &str| -> usize {
+        let text = String::from_utf8_lossy(&vector.input).into_owned();
+        let line = text.lines().find_map(|line| line.strip_prefix(key));
+        line.map_or(0, |number| number.parse().expect("a number"))
+    };
+    for vector in all() {
+        let most = match vector.form {
+            Form::Case => 40_000,
+            Form::Job => 80_000,
+        };
+        assert!(vector.input.len() <= most && vector.expected().len() <= most);
+        if vector.form == Form::Case {
+            assert!(number(&vector, "count=") <= 4096);
+            assert!(number(&vector, "lent=") <= 16385);
+        }
+    }
+}
+
+#[test]
+fn every_case_has_its_form() {
+    let faulty = all()
+        .into_iter()
+        .find(|vector| vector.expected().starts_with("faulty"));
+    assert_eq!(faulty.map(|vector| vector.name), None);
+}
