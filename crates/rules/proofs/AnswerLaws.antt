@@ -17,7 +17,7 @@ use Rattle.rules.specs.Trees.{recipe}
 use Rattle.rules.specs.Judging.{orElse, judge, judgeTrace}
 use Rattle.rules.specs.Running.{statement, start, Record}
 use Rattle.rules.specs.LevelCheck.{walk, checkedOf}
-use Rattle.rules.specs.Answers.{Said, accepted, refused, verdict, pass, fail, saidOfJudge, saidOfRun, saidOfCheck, Whole, answered, termsOf, answer, traceWordsOf, traceAfter, advised, advice, judgement, toldOf, telling}
+use Rattle.rules.specs.Answers.{Told, Said, accepted, refused, verdict, pass, fail, saidOfJudge, saidOfRun, saidOfCheck, Whole, answered, termsOf, answer, traceWordsOf, traceAfter, advised, advice, judgement, toldOf, telling}
 use Rattle.rules.proofs.RunLaws.{state, final}
 use Rattle.rules.specs.Sound.{Sound}
 use Rattle.rules.proofs.JudgeLaws.{orElse-accepted, accepted-sound}
@@ -83,6 +83,10 @@ telling-law a w es en er em el = λ i. record { said = es i; steps = en i; recor
 pub trace-words-none : traceWordsOf [] ≡ []
 unfolding traceWordsOf
 trace-words-none = refl
+
+pub trace-words-cons : (r : Record) (rs : List Record) → traceWordsOf (r ∷ rs) ≡ r .channel ∷ r .value ∷ traceWordsOf rs
+unfolding traceWordsOf
+trace-words-cons r rs = refl
 
 pub trace-words-snoc : (rs : List Record) (r : Record) → traceWordsOf (rs ++ (r ∷ [])) ≡ traceWordsOf rs ++ (r .channel ∷ r .value ∷ [])
 unfolding traceWordsOf
@@ -189,3 +193,26 @@ judged-as words said e = sym (said-judged words said) ∙ e
 -- from an answer "accepted" follows all that the crates above use of a table
 pub accepted-answer : (words : List ℕ) {answer : Judged} → saidOfJudge answer ≡ judgement words → answer ≡ Judged.Accepted → Sound (rowsOf words)
 accepted-answer words said e = accepted-sound words (judged-as words said e)
+
+-- ---- what an answer that tells this is
+
+module _ (a : Answer) (w : Whole) (told : toldOf a ≡ telling w) where
+  pub told-said : saidOfRun (a .ended) ≡ w .said
+  unfolding toldOf telling
+  told-said = ap (λ (x : Told). x .said) told
+
+  pub told-steps : a .steps ≡ w .steps
+  unfolding toldOf telling
+  told-steps = ap (λ (x : Told). x .steps) told
+
+  pub told-records : a .records ≡ length (w .records)
+  unfolding toldOf telling
+  told-records = ap (λ (x : Told). x .records) told
+
+  pub told-memory : a .memory .words ≡ w .memory
+  unfolding toldOf telling
+  told-memory = ap (λ (x : Told). x .memory) told
+
+  pub told-marks : a .marks ≡ w .marks
+  unfolding toldOf telling
+  told-marks = ap (λ (x : Told). x .marks) told

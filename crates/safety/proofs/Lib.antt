@@ -8,3 +8,4 @@ pub mod Least
 pub mod Permissive
 pub mod Bounds
 pub mod Examples
+pub mod Calls

@@ -2,3 +2,4 @@
 pub mod Stations
 pub mod Demands
 pub mod Examples
+pub mod Calls
