@@ -4,6 +4,7 @@ pub mod case;
 pub mod job;
 pub mod levels;
 pub mod marks;
+pub mod program;
 pub mod random;
 pub mod recipes;
 pub mod run;

@@ -5,7 +5,7 @@ use std::path::Path;
 use std::process::ExitCode;
 
 use independent::job::{read, refusal_lines, report, MOST_JOB_BYTES};
-use independent::{case, vectors};
+use independent::{case, program, vectors};
 
 const HELP: &str = "\
 usage: independent [OPTION]
@@ -14,6 +14,7 @@ With no option: read a job on standard input and print its report.
   --levels       print the level check's answer for the job's table and levels
   --case         read a table case on standard input and print its answer
   --vectors DIR  write every vector, with its expected output, below DIR
+  --program DIR  write what the program `cases` reads and must write, below DIR
   --help         print this text
 ";
 
@@ -67,6 +68,10 @@ fn answer(arguments: &[&str]) -> Result<String, Fault> {
         ["--case"] => case_answer(),
         ["--vectors", folder] => {
             vectors::write(Path::new(folder))?;
+            Ok(String::new())
+        }
+        ["--program", folder] => {
+            program::write(Path::new(folder))?;
             Ok(String::new())
         }
         ["--help"] => Ok(HELP.to_string()),

@@ -2,6 +2,7 @@
 
 use std::collections::BTreeSet;
 
+use independent::program::streams;
 use independent::vectors::{all, Form, Vector};
 
 #[test]
@@ -72,4 +73,19 @@ fn every_case_has_its_form() {
         .into_iter()
         .find(|vector| vector.expected().starts_with("faulty"));
     assert_eq!(faulty.map(|vector| vector.name), None);
+}
+
+/// What the program `cases` reads, whose buffer is fixed: numbers, a line each, and a 0 at the end.
+#[test]
+fn program_streams_are_in_form() {
+    let streams = streams();
+    assert!(streams.stdin.len() < 200_000);
+    assert!(streams.stdin.ends_with("\n0\n"));
+    let number = |word: &str| word.parse::<u32>().is_ok();
+    assert!(streams.stdin.lines().all(number));
+    assert!(streams
+        .stdout
+        .lines()
+        .all(|line| line.split(' ').all(number)));
+    assert!(streams.stdout.lines().count() > 300);
 }

@@ -1,0 +1,312 @@
+// Reads cases, one number a line, and writes what the proved functions answer, one case a line. The crate's `stdin` and
+// `stdout` are written by the independent implementation (independent/regenerate), so the check holds the two to each other.
+//
+// A case is a code and what it asks: 1 the judge, 2 the run, 3 an operator. A 0, or a number that lacks its form, ends it all.
+use libc::STDIN_FILENO;
+use libc::STDOUT_FILENO;
+use rules::Answer;
+use rules::Ended;
+use rules::Judged;
+use rules::Marks;
+use rules::Memory;
+use rules::VARIABLES;
+ghost use Prim.Native.Nat.{_<_};
+
+const MOST_BYTES: usize = 262144;
+
+const MOST_CASES: u32 = 4096;
+
+const MOST_WORDS: usize = 4096;
+
+const MOST_TRACE_WORDS: usize = 16400;
+
+// A trace of more words is shown only as far as it has records.
+const MOST_SHOWN_WORDS: usize = 64;
+
+const MOST_NUMBER: u64 = 4294967295;
+
+// A number of the input, and where the next one starts.
+struct Number {
+    value: u32,
+    next: usize,
+}
+
+// The number whose line starts there. One that lacks its form is 0, with nothing after it.
+fn number_at(text: &[u8], start: usize) -> Number {
+    let mut at = start;
+    let mut value: u64 = 0;
+    while at < text.len() {
+        let byte = text[at];
+        at += 1;
+        if MOST_NUMBER < value {
+            return no_number(text);
+        }
+        if byte == b'\n' {
+            return Number {
+                value: value as u32,
+                next: at,
+            };
+        }
+        if byte < b'0' {
+            return no_number(text);
+        }
+        if b'9' < byte {
+            return no_number(text);
+        }
+        value = value * 10 + digit_of(byte);
+    }
+    no_number(text)
+}
+
+fn no_number(text: &[u8]) -> Number {
+    Number {
+        value: 0,
+        next: text.len(),
+    }
+}
+
+// The value of a decimal digit: the low four bits of its byte.
+fn digit_of(byte: u8) -> u64
+    ensures { λ r. ⌜ r < 16 ⌝ }
+{
+    byte as u64 % 16
+}
+
+// Fills the words with the numbers from there on, and answers where the next one starts.
+fn read_words(text: &[u8], start: usize, words: &mut [u32]) -> usize {
+    let count = words.len();
+    let mut at = start;
+    let mut i: usize = 0;
+    while i < count {
+        let number = number_at(text, at);
+        words[i] = number.value;
+        at = number.next;
+        i += 1;
+    }
+    at
+}
+
+// Writes a number with a space before it.
+fn write_number(value: u32) {
+    io::write_all(STDOUT_FILENO, b" ");
+    io::print_decimal(STDOUT_FILENO, value as u64);
+}
+
+// Writes numbers, each with a space before it.
+fn write_numbers(values: &[u32]) {
+    let mut i: usize = 0;
+    while i < values.len() {
+        write_number(values[i]);
+        i += 1;
+    }
+}
+
+// Starts a case's line.
+fn write_first(value: u32) {
+    io::print_decimal(STDOUT_FILENO, value as u64);
+}
+
+// Ends a case's line.
+fn write_end() {
+    io::write_all(STDOUT_FILENO, b"\n");
+}
+
+fn write_judged(judged: Judged) {
+    match judged {
+        Judged::Accepted => {
+            write_first(0);
+            write_number(0);
+        }
+        Judged::Refused { number, row } => {
+            write_first(number);
+            write_number(row);
+        }
+    }
+}
+
+// How a run ended: whether it was refused, and by what; else its verdict and place.
+fn write_ended(refused: u32, number: u32, row: u32) {
+    write_first(refused);
+    write_number(number);
+    write_number(row);
+}
+
+fn write_end_of_run(ended: Ended) {
+    match ended {
+        Ended::Done => {
+            write_ended(0, 0, 0);
+        }
+        Ended::Stopped(row) => {
+            write_ended(0, 1, row);
+        }
+        Ended::Spent => {
+            write_ended(0, 2, 0);
+        }
+        Ended::NoRoom(row) => {
+            write_ended(0, 3, row);
+        }
+        Ended::Refused { number, row } => {
+            write_ended(1, number, row);
+        }
+    }
+}
+
+// The whole of a short trace; of a long one its records.
+fn write_trace(records: u32, trace: &[u32]) {
+    if trace.len() <= MOST_SHOWN_WORDS {
+        write_numbers(trace);
+        return;
+    }
+    let shown = records as usize * 2;
+    if shown <= trace.len() {
+        write_numbers(&trace[..shown]);
+    }
+}
+
+fn write_answer(answer: Answer) {
+    let ended = answer.ended;
+    write_end_of_run(ended);
+    write_number(answer.steps);
+    write_number(answer.marks);
+    let memory = answer.memory;
+    let words = memory.words;
+    write_numbers(&words);
+    write_number(answer.records);
+}
+
+// A case of the judge: word count, words.
+fn answer_judge(text: &[u8], start: usize) -> usize {
+    let number = number_at(text, start);
+    let count = number.value as usize;
+    if MOST_WORDS < count {
+        return text.len();
+    }
+    let mut words = [0u32; MOST_WORDS];
+    judge_read(text, number.next, &mut words[..count])
+}
+
+// Reads the words, and writes what the judge says of them.
+fn judge_read(text: &[u8], start: usize, words: &mut [u32]) -> usize {
+    let next = read_words(text, start, words);
+    write_judged(table::judge(words));
+    write_end();
+    next
+}
+
+// A case of the run: word count, words, memory, marks, budget, trace word count, trace words.
+fn answer_run(text: &[u8], start: usize) -> usize {
+    let number = number_at(text, start);
+    let count = number.value as usize;
+    if MOST_WORDS < count {
+        return text.len();
+    }
+    let mut words = [0u32; MOST_WORDS];
+    run_read(text, number.next, &mut words[..count])
+}
+
+// Reads the words, and goes on with their case.
+fn run_read(text: &[u8], start: usize, words: &mut [u32]) -> usize {
+    let next = read_words(text, start, words);
+    answer_table(text, next, words)
+}
+
+// The memory words from there on, and where the next number starts.
+struct Given {
+    memory: Memory,
+    next: usize,
+}
+
+fn memory_at(text: &[u8], start: usize) -> Given {
+    let mut words = [0u32; VARIABLES];
+    let next = read_words(text, start, &mut words);
+    Given {
+        memory: Memory { words },
+        next,
+    }
+}
+
+// Reads what a run of the table is given, but for the words of the trace.
+fn answer_table(text: &[u8], start: usize, table: &[u32]) -> usize {
+    let given = memory_at(text, start);
+    let marks = number_at(text, given.next);
+    let budget = number_at(text, marks.next);
+    let lent = number_at(text, budget.next);
+    let count = lent.value as usize;
+    if MOST_TRACE_WORDS < count {
+        return text.len();
+    }
+    let mut trace = [0u32; MOST_TRACE_WORDS];
+    let memory = given.memory;
+    run_traced(
+        text,
+        lent.next,
+        table,
+        memory,
+        marks.value,
+        budget.value,
+        &mut trace[..count],
+    )
+}
+
+// Reads the words of the trace, and writes what the run answers and leaves in the trace.
+fn run_traced(
+    text: &[u8],
+    start: usize,
+    table: &[u32],
+    memory: Memory,
+    marks: Marks,
+    budget: u32,
+    trace: &mut [u32],
+) -> usize {
+    let next = read_words(text, start, trace);
+    let answer = monitor::run(table, memory, marks, budget, trace);
+    write_answer(answer);
+    write_trace(answer.records, trace);
+    write_end();
+    next
+}
+
+// A case of an operator: operator, left, right.
+fn answer_operator(text: &[u8], start: usize) -> usize {
+    let operator = number_at(text, start);
+    let left = number_at(text, operator.next);
+    let right = number_at(text, left.next);
+    let value = expression::operators::operated(operator.value, left.value, right.value);
+    write_first(value);
+    write_end();
+    right.next
+}
+
+// Answers the case that starts there, and says where the next one starts.
+fn answer_one(text: &[u8], start: usize) -> usize {
+    let code = number_at(text, start);
+    if code.value == 1 {
+        return answer_judge(text, code.next);
+    }
+    if code.value == 2 {
+        return answer_run(text, code.next);
+    }
+    if code.value == 3 {
+        return answer_operator(text, code.next);
+    }
+    text.len()
+}
+
+// Answers the cases up to the end of the input, or to one that lacks its form.
+fn answer_all(text: &[u8]) {
+    let mut at: usize = 0;
+    let mut cases: u32 = 0;
+    while cases < MOST_CASES {
+        if text.len() <= at {
+            return;
+        }
+        at = answer_one(text, at);
+        cases += 1;
+    }
+}
+
+fn main() {
+    let mut text = [0u8; MOST_BYTES];
+    let count = io::read_full(STDIN_FILENO, &mut text);
+    answer_all(&text[..count]);
+}

@@ -1,0 +1,154 @@
+//! The number stream for the program `cases`, and the lines that it must write: the cases of the
+//! vectors, one number a line, and their answers, one case a line.
+
+use std::fs;
+use std::io;
+use std::path::Path;
+
+use crate::case::answer;
+use crate::run::RECORD_WORDS;
+use crate::vectors::{all, Form, Vector};
+
+/// Judge cases with at most so many words are in the stream.
+const MOST_JUDGED_WORDS: usize = 64;
+/// Run cases whose table has at most so many words, and whose trace has at most so many.
+const MOST_RUN_WORDS: usize = 128;
+const MOST_TRACE_WORDS: usize = 64;
+/// Longer cases that are in the stream all the same: a limit met, or just exceeded.
+const LONGER: [&str; 5] = [
+    "judge-2048-words",
+    "judge-2052-words",
+    "run-k-16384-trace-words",
+    "run-k-16385-trace-words",
+    "run-refused-5-before-6",
+];
+/// Judge cases of the limits of tables: all are in the stream.
+const LIMITS: &str = "judge-k-";
+
+/// What the program reads, and what it must write.
+pub struct Streams {
+    pub stdin: String,
+    pub stdout: String,
+}
+
+pub fn streams() -> Streams {
+    let mut streams = Streams {
+        stdin: String::new(),
+        stdout: String::new(),
+    };
+    for vector in all() {
+        let Some(case) = Numbered::of(&vector) else {
+            continue;
+        };
+        for number in &case.question {
+            streams.stdin += &format!("{number}\n");
+        }
+        streams.stdout += &(case.answer.join(" ") + "\n");
+    }
+    streams.stdin += "0\n";
+    streams
+}
+
+/// Writes `stdin` and `stdout` below `folder`.
+pub fn write(folder: &Path) -> io::Result<()> {
+    let streams = streams();
+    fs::create_dir_all(folder)?;
+    fs::write(folder.join("stdin"), streams.stdin)?;
+    fs::write(folder.join("stdout"), streams.stdout)
+}
+
+/// A case as numbers.
+struct Numbered {
+    question: Vec<String>,
+    answer: Vec<String>,
+}
+
+impl Numbered {
+    /// The case as numbers, if it is one of the stream's.
+    fn of(vector: &Vector) -> Option<Numbered> {
+        if vector.form != Form::Case {
+            return None;
+        }
+        let asked = Lines::of(&vector.input);
+        let answered = Lines::of(answer(&vector.input).ok()?.as_bytes());
+        let longer = LONGER.contains(&vector.name.as_str());
+        let (code, answer) = match asked.word("ask") {
+            "judge" => {
+                let limit = longer || vector.name.starts_with(LIMITS);
+                if !limit && asked.count("count") > MOST_JUDGED_WORDS {
+                    return None;
+                }
+                ("1", answered.numbers())
+            }
+            "run" => {
+                let short = asked.count("count") <= MOST_RUN_WORDS
+                    && asked.count("lent") <= MOST_TRACE_WORDS;
+                if !short && !longer {
+                    return None;
+                }
+                ("2", run_numbers(&answered))
+            }
+            "operator" => ("3", answered.numbers()),
+            _ => return None,
+        };
+        let mut question = vec![code.to_string()];
+        question.extend(asked.without("ask").numbers());
+        Some(Numbered { question, answer })
+    }
+}
+
+/// Whether it was refused, then the answer without the trace's length; of a long trace only the
+/// records.
+fn run_numbers(answered: &Lines) -> Vec<String> {
+    let refused = answered.0[0].0 == "refused";
+    let mut numbers = vec![u32::from(refused).to_string()];
+    numbers.extend(answered.without("lent").without("trace").numbers());
+    let trace = answered.only("trace").numbers();
+    let shown = if trace.len() > MOST_TRACE_WORDS {
+        RECORD_WORDS * answered.count("records")
+    } else {
+        trace.len()
+    };
+    numbers.extend_from_slice(&trace[..shown]);
+    numbers
+}
+
+/// The lines `key=value` of a case or of an answer.
+struct Lines(Vec<(String, String)>);
+
+impl Lines {
+    fn of(text: &[u8]) -> Lines {
+        let text = String::from_utf8_lossy(text);
+        let lines = text.lines().filter_map(|line| line.split_once('='));
+        Lines(lines.map(|(k, v)| (k.to_string(), v.to_string())).collect())
+    }
+
+    fn kept(&self, keep: impl Fn(&str) -> bool) -> Lines {
+        let kept = self.0.iter().filter(|(key, _)| keep(key));
+        Lines(kept.cloned().collect())
+    }
+
+    fn only(&self, key: &str) -> Lines {
+        self.kept(|other| other == key)
+    }
+
+    fn without(&self, key: &str) -> Lines {
+        self.kept(|other| other != key)
+    }
+
+    fn word(&self, key: &str) -> &str {
+        let found = self.0.iter().find(|(other, _)| other == key);
+        found.map_or("", |(_, value)| value)
+    }
+
+    fn count(&self, key: &str) -> usize {
+        self.word(key).parse().unwrap_or(0)
+    }
+
+    /// Every number, in order.
+    fn numbers(&self) -> Vec<String> {
+        let values = self.0.iter().flat_map(|(_, value)| value.split(','));
+        let numbers = values.filter(|number| !number.is_empty());
+        numbers.map(str::to_string).collect()
+    }
+}
