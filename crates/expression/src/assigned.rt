@@ -1,6 +1,6 @@
 // What a statement may assign: "every variable that stands on the left of an assignment anywhere in the statement".
-use crate::marks::joined;
-use crate::marks::only_mark;
+use leaves::marks::joined;
+use leaves::marks::only_mark;
 use rules::Judged;
 use rules::Kind;
 use rules::Marks;

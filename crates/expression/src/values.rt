@@ -1,9 +1,9 @@
 // An expression's value and level.
-use crate::marks::has_mark;
-use crate::marks::joined;
-use crate::marks::only_mark;
-use crate::memory::read_lent;
-use crate::operators::operated;
+use leaves::marks::has_mark;
+use leaves::marks::joined;
+use leaves::marks::only_mark;
+use leaves::memory::read_lent;
+use leaves::operators::operated;
 use rules::Judged;
 use rules::Kind;
 use rules::Marks;

@@ -19,8 +19,8 @@ use borrow.Fn.PlainCycle.{Measures, is, falls, and}
 use Rattle.expression.proofs.assigned.may_assign_lent.Reads as may-assign
 use Rattle.expression.proofs.assigned.may_assign_lent.Kinds as may-assign-kinds
 use Rattle.expression.proofs.assigned.+may_assign_lent.Lts-may_assign_lent as may-assign-lts
-use Rattle.expression.proofs.marks.joined.Reads as joined-reads
-use Rattle.expression.proofs.marks.only_mark.Reads as only-mark-reads
+use Rattle.leaves.proofs.marks.joined.Reads as joined-reads
+use Rattle.leaves.proofs.marks.only_mark.Reads as only-mark-reads
 use Rattle.table.proofs.rows.read_row.Reads as read-row-reads
 use Rattle.expression.proofs.assigned.+may_assign_lent.{statement}
 use Rattle.expression.proofs.assigned.+may_assign_lent.Tie.{close}

@@ -20,8 +20,8 @@ use borrow.Fn.PlainCycle.{Measures, is, falls, and}
 use Rattle.expression.proofs.values.evaluate_lent.Reads as evaluate
 use Rattle.expression.proofs.values.evaluate_lent.Kinds as evaluate-kinds
 use Rattle.expression.proofs.values.+evaluate_lent.Lts-evaluate_lent as evaluate-lts
-use Rattle.expression.proofs.marks.joined.Reads as joined-reads
-use Rattle.expression.proofs.operators.operated.Reads as operated-reads
+use Rattle.leaves.proofs.marks.joined.Reads as joined-reads
+use Rattle.leaves.proofs.operators.operated.Reads as operated-reads
 use Rattle.expression.proofs.values.read_variable.Reads as read-variable-reads
 use Rattle.table.proofs.rows.read_row.Reads as read-row-reads
 use Rattle.expression.proofs.values.+evaluate_lent.{statement}
