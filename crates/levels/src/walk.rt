@@ -122,7 +122,7 @@ pub fn walk(table: &[u32], row: u32, context: bool, marks: Marks) -> Found
             let then = walk(table, here.q, inside, marks);
             let other = walk(table, here.r, inside, marks);
             Found {
-                marks: joined(then.marks, other.marks),
+                marks: then.marks | other.marks,
                 lowest: lower(then.lowest, other.lowest),
             }
         }

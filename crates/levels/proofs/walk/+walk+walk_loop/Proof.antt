@@ -17,6 +17,7 @@ use Rattle.rules.specs.LevelRules.{under}
 use Rattle.rules.specs.LevelCheck.{Walked, rounds}
 use Rattle.rules.specs.LevelCheck as rule
 use Rattle.rules.specs.Sound.{SoundRow, Sound}
+use Rattle.rules.proofs.MarkLaws.{union-or}
 use Rattle.rules.proofs.RowLaws.{kind-arm}
 use Rattle.rules.proofs.TreeLaws.{sound-as, stmt-of-row, stmt-arms, assign-words, sequence-words, if-words, while-words, output-words}
 use Rattle.levels.specs.declared.walk.Found.{Found}
@@ -71,8 +72,6 @@ calls t = (
   walk.Post,
   lower-reads.Asked,
   lower-reads.Learnt,
-  joined-reads.Asked,
-  joined-reads.Learnt,
   walk-loop-below t,
   walk-loop.Post,
   failing-at-reads.Asked,
@@ -148,9 +147,6 @@ walk-walk-requires-4 : (t : ℕ) → walk-lts.Need-walk-requires-4 (calls t) (wa
 walk-walk-requires-4 t c κs =
     below t (c .before .before .before .before) (if-words (words-as t (c .before .before .before .before) (c .before .before .enum-told3 .given .1)) .2)
 
-walk-joined-requires : (t : ℕ) → walk-lts.Need-joined-requires (calls t) (walk-at t) walk.Post
-walk-joined-requires t c κs = tt
-
 walk-lower-requires-2 : (t : ℕ) → walk-lts.Need-lower-requires-2 (calls t) (walk-at t) walk.Post
 walk-lower-requires-2 t c κs = tt
 
@@ -196,14 +192,16 @@ walk-returns-2 t c =
 
 walk-returns-3 : (t : ℕ) → walk-lts.Need-returns-3 (calls t) (walk-at t) walk.Post
 walk-returns-3 t c =
-    let then = c .before .before .before in
+    let both = c .before .before .before in
+    let then = both .before in
     let asked = then .before in
     let told = asked .before in
     let here = told .before .before in
     let a = here .before .before .args in
     of-row t here (kind-arm (stmt-arms _ _ _ _ .2) _ (told .before .match .keys3))
     (found-if (a .context) (a .marks) (exprAt (rows t here) (here .read-row .result .p)) (stmtAt (rows t here) (here .read-row .result .q))
-    (stmtAt (rows t here) (here .read-row .result .r)) (asked .is-guarded2 .ensures) (then .walk3 .ensures) (c .before .before .walk4 .ensures) (c .before .joined .ensures) (c .lower2 .ensures))
+    (stmtAt (rows t here) (here .read-row .result .r)) (asked .is-guarded2 .ensures) (then .walk3 .ensures) (both .walk4 .ensures)
+    (sym (union-or (then .walk3 .result .marks) (both .walk4 .result .marks))) (c .lower2 .ensures))
 
 walk-returns-4 : (t : ℕ) → walk-lts.Need-returns-4 (calls t) (walk-at t) walk.Post
 walk-returns-4 t c =
@@ -316,7 +314,6 @@ pub +walk+walk-loop-spec : {M : Type 1} → statement M
     (walk-is-guarded-requires-2 t)
     (walk-walk-requires-3 t)
     (walk-walk-requires-4 t)
-    (walk-joined-requires t)
     (walk-lower-requires-2 t)
     (walk-enum-told-4 t)
     (walk-walk-loop-requires t)
