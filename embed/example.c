@@ -12,6 +12,8 @@ int main(void) {
         printf("out=%u,%u\n", trace[2 * i], trace[2 * i + 1]);
     status = buzorinde_judge(table, 19, answer, BUZORINDE_JUDGE_WORDS);
     printf("status=%u refusal=%u row=%u\n", status, answer[BUZORINDE_REFUSAL], answer[BUZORINDE_ROW]);
+    status = buzorinde_check(table, 20, 3, answer, BUZORINDE_CHECK_WORDS);
+    printf("status=%u verdict=%u row=%u marks=%u\n", status, answer[BUZORINDE_VERDICT], answer[BUZORINDE_ROW], answer[BUZORINDE_CHECK_MARKS]);
     printf("status=%u\n", buzorinde_judge(table, 20, answer, 2));
     printf("status=%u\n", buzorinde_run(table, 20, memory, 31, 2, 10, trace, 4, answer, BUZORINDE_RUN_WORDS));
 }

@@ -9,12 +9,14 @@ use lib.Dec.{ltb}
 use lib.ListN.{length, take, drop, getD, set, length-append, length-drop}
 use lib.Seq.{sets, sets-eq, take-append-seam, drop-append-add, drop-drop, take-all, drop-cons, set-at, length-take-le, append-snoc, take-suc}
 use borrow.Author.Tests.{lt-ltb, le-ltb}
+use Rattle.rules.specs.declared.Advice.{Advice}
 use Rattle.rules.specs.declared.Answer.{Answer}
 use Rattle.rules.specs.Limits.{width}
-use Rattle.rules.specs.Answers.{Said, Whole, judgement, answer, traceAfter, saidOfRun, toldOf, telling}
+use Rattle.rules.specs.Answers.{Said, Whole, Advised, judgement, advice, answer, traceAfter, saidOfRun, saidOfCheck, toldOf, telling}
 use Rattle.rules.proofs.AnswerLaws.{told-said, told-steps, told-records, told-memory, told-marks}
+use Rattle.levels.specs.Told.{advisedOf}
 use Rattle.embed.specs.declared.Numbers.{Numbers}
-use Rattle.embed.specs.Calls.{numbersOf, saidWords, runWords, laid, answered, answerTooShort, memoryTooShort, judgeLength, runLength, judgeCallBy, judgeCall, ranCall, runCallBy, runCall}
+use Rattle.embed.specs.Calls.{numbersOf, saidWords, runWords, laid, answered, answerTooShort, memoryTooShort, judgeLength, runLength, callBy, judgeCall, checkWords, checkLength, checkCall, ranCall, runCallBy, runCall}
 
 -- words laid over a buffer, and more stored after them
 pub laid-more : (words more buffer : List ℕ) → length words + length more ≤ length buffer
@@ -38,17 +40,35 @@ copied-more from to i f t =
     ∙ ap (λ (r : List ℕ). r ++ drop (suc i) to) (sym (take-suc from i 0 f))
     ∙ ap (λ (k : ℕ). take k from ++ drop k to) (sym (add-one i))
 
--- ---- the judge
+-- ---- the judge and the level check
+
+call-short : (words buffer : List ℕ) (needed : ℕ) → length buffer < needed
+    → callBy (ltb (length buffer) needed) words buffer ≡ record { status = answerTooShort; answer = buffer }
+call-short words buffer needed h = ap (λ (b : Bool). callBy b words buffer) (lt-ltb (length buffer) needed h)
+
+call-answered : (words buffer : List ℕ) (needed : ℕ) → needed ≤ length buffer
+    → callBy (ltb (length buffer) needed) words buffer ≡ record { status = answered; answer = laid words buffer }
+call-answered words buffer needed h = ap (λ (b : Bool). callBy b words buffer) (le-ltb (length buffer) needed h)
 
 module _ (table buffer : List ℕ) where
   pub judge-short : length buffer < judgeLength → judgeCall table buffer ≡ record { status = answerTooShort; answer = buffer }
-  judge-short h = ap (λ (b : Bool). judgeCallBy b table buffer) (lt-ltb (length buffer) judgeLength h)
+  judge-short h = call-short (saidWords (numbersOf (judgement table))) buffer judgeLength h
 
   pub judge-answered : (said : Said) → judgeLength ≤ length buffer → said ≡ judgement table
       → judgeCall table buffer ≡ record { status = answered; answer = laid (saidWords (numbersOf said)) buffer }
   judge-answered said h s =
-      ap (λ (b : Bool). judgeCallBy b table buffer) (le-ltb (length buffer) judgeLength h)
+      call-answered (saidWords (numbersOf (judgement table))) buffer judgeLength h
       ∙ ap (λ (x : Said). record { status = answered; answer = laid (saidWords (numbersOf x)) buffer }) (sym s)
+
+  pub check-short : (marks : ℕ) → length buffer < checkLength → checkCall table marks buffer ≡ record { status = answerTooShort; answer = buffer }
+  check-short marks h = call-short (checkWords (advice table marks)) buffer checkLength h
+
+  pub check-answered : (marks : ℕ) (a : Advice) → checkLength ≤ length buffer → advisedOf a ≡ advice table marks
+      → checkCall table marks buffer
+      ≡ record { status = answered; answer = laid (saidWords (numbersOf (saidOfCheck (a .checked))) ++ a .marks ∷ []) buffer }
+  check-answered marks a h told =
+      call-answered (checkWords (advice table marks)) buffer checkLength h
+      ∙ ap (λ (x : Advised). record { status = answered; answer = laid (checkWords x) buffer }) (sym told)
 
 -- ---- the run
 

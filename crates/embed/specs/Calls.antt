@@ -5,7 +5,7 @@ use mathlib.Core.List.{List, [], _∷_, _++_}
 use lib.Dec.{ltb}
 use lib.ListN.{length, take, drop}
 use Rattle.rules.specs.Limits.{width}
-use Rattle.rules.specs.Answers.{Said, accepted, refused, verdict, pass, fail, Whole, judgement, answer, traceAfter}
+use Rattle.rules.specs.Answers.{Said, accepted, refused, verdict, pass, fail, Whole, Advised, judgement, advice, answer, traceAfter}
 use Rattle.embed.specs.declared.Numbers.{Numbers}
 
 -- The first three words of every answer: the refusal's number or 0; the verdict, which is 1 for a check that fails; the place,
@@ -23,6 +23,10 @@ saidWords n = n .refusal ∷ n .verdict ∷ n .row ∷ []
 -- The words of a run's answer: what is said of it, steps, records and marks.
 abbrev pub runWords : Whole → List ℕ
 runWords w = saidWords (numbersOf (w .said)) ++ w .steps ∷ length (w .records) ∷ w .marks ∷ []
+
+-- The words of a check's answer: what is said of it, and marks.
+abbrev pub checkWords : Advised → List ℕ
+checkWords a = saidWords (numbersOf (a .said)) ++ a .marks ∷ []
 
 -- Words laid over the first words of a buffer; the others keep their old contents.
 abbrev pub laid : List ℕ → List ℕ → List ℕ
@@ -42,21 +46,29 @@ memoryTooShort = 2
 abbrev pub judgeLength : ℕ
 judgeLength = 3
 
+abbrev pub checkLength : ℕ
+checkLength = 4
+
 abbrev pub runLength : ℕ
 runLength = 6
 
--- ---- the judge
+-- ---- the judge and the level check
 
-pub record JudgeCall : Type 0 where
+-- what comes of a call that is lent nothing but the answer's buffer
+pub record Call : Type 0 where
   pub status : ℕ
   pub answer : List ℕ
 
-abbrev pub judgeCallBy : Bool → List ℕ → List ℕ → JudgeCall
-judgeCallBy true table buffer = record { status = answerTooShort; answer = buffer }
-judgeCallBy false table buffer = record { status = answered; answer = laid (saidWords (numbersOf (judgement table))) buffer }
+-- the Bool says that the answer's buffer is too short for its words
+abbrev pub callBy : Bool → List ℕ → List ℕ → Call
+callBy true words buffer = record { status = answerTooShort; answer = buffer }
+callBy false words buffer = record { status = answered; answer = laid words buffer }
 
-abbrev pub judgeCall : List ℕ → List ℕ → JudgeCall
-judgeCall table buffer = judgeCallBy (ltb (length buffer) judgeLength) table buffer
+abbrev pub judgeCall : List ℕ → List ℕ → Call
+judgeCall table buffer = callBy (ltb (length buffer) judgeLength) (saidWords (numbersOf (judgement table))) buffer
+
+abbrev pub checkCall : List ℕ → ℕ → List ℕ → Call
+checkCall table marks buffer = callBy (ltb (length buffer) checkLength) (checkWords (advice table marks)) buffer
 
 -- ---- the run
 

@@ -1,5 +1,6 @@
 // The functions for C and Rust: numbers and slices only. What they answer is laid over the first words of a buffer that the
 // caller lends; a buffer that is too short is refused with a number of its own, and then nothing has changed.
+use rules::Checked;
 use rules::Ended;
 use rules::Judged;
 use rules::Memory;
@@ -9,8 +10,8 @@ ghost use mathlib.Core.List.{[], _∷_, _++_};
 ghost use Prim.Native.Nat.{_≤_};
 ghost use lib.ListN.{length, take, drop};
 ghost use Rattle.rules.specs.Limits.{width};
-ghost use Rattle.rules.specs.Answers.{saidOfJudge, saidOfRun};
-ghost use Rattle.embed.specs.Calls.{numbersOf, saidWords, laid, judgeCall, runCall};
+ghost use Rattle.rules.specs.Answers.{saidOfJudge, saidOfRun, saidOfCheck};
+ghost use Rattle.embed.specs.Calls.{numbersOf, saidWords, laid, judgeCall, checkCall, runCall};
 
 // What a call returns: that it has answered, or which buffer was too short.
 const ANSWERED: u32 = 0;
@@ -21,6 +22,8 @@ const MEMORY_TOO_SHORT: u32 = 2;
 
 // How many words an answer takes.
 const JUDGE_WORDS: usize = 3;
+
+const CHECK_WORDS: usize = 4;
 
 const RUN_WORDS: usize = 6;
 
@@ -76,6 +79,17 @@ fn run_numbers(ended: Ended) -> Numbers
     }
 }
 
+// The numbers of what the level check says: a check that fails has verdict 1.
+fn check_numbers(checked: Checked) -> Numbers
+    ensures { λ r. ⌜ r ≡ numbersOf (saidOfCheck checked) ⌝ }
+{
+    match checked {
+        Checked::Pass => verdict_numbers(0, 0),
+        Checked::Fail(row) => verdict_numbers(1, row),
+        Checked::Refused { number, row } => refused_numbers(number, row),
+    }
+}
+
 // Lays the numbers over the first words of the answer.
 fn put_numbers(answer: &mut [u32], numbers: Numbers)
     requires { ⌜ 3 ≤ length (now answer) ⌝ }
@@ -84,6 +98,15 @@ fn put_numbers(answer: &mut [u32], numbers: Numbers)
     answer[0] = numbers.refusal;
     answer[1] = numbers.verdict;
     answer[2] = numbers.row;
+}
+
+// Lays a check's numbers and marks over the first words of the answer.
+fn put_check(answer: &mut [u32], numbers: Numbers, marks: u32)
+    requires { ⌜ 4 ≤ length (now answer) ⌝ }
+    ensures { λ _. ⌜ now (answer .exit) ≡ laid (saidWords numbers ++ marks ∷ []) (now (answer .entry)) ⌝ }
+{
+    put_numbers(answer, numbers);
+    answer[3] = marks;
 }
 
 // Lays a run's numbers, steps, records and marks over the first words of the answer.
@@ -119,6 +142,21 @@ pub extern "C" fn buzorinde_judge(table: &[u32], answer: &mut [u32]) -> u32
     }
     let judged = table::judge(table);
     put_numbers(answer, judge_numbers(judged));
+    ANSWERED
+}
+
+// The level check. The answer's four words are the refusal's number or 0, 1 for a check that fails and else 0, the lowest
+// failing row or the refusal's row, and the final marks.
+#[no_mangle]
+pub extern "C" fn buzorinde_check(table: &[u32], marks: u32, answer: &mut [u32]) -> u32
+    ensures { λ r. ⌜ checkCall (now (table .entry)) marks (now (answer .entry)) ≡ record { status = r; answer = now (answer .exit) } ⌝ }
+{
+    if answer.len() < CHECK_WORDS {
+        return ANSWER_TOO_SHORT;
+    }
+    let advice = levels::check(table, marks);
+    let checked = advice.checked;
+    put_check(answer, check_numbers(checked), advice.marks);
     ANSWERED
 }
 

@@ -20,13 +20,13 @@ use Rattle.job.proofs.NumberLaws.{drop-at, both-true}
 
 -- ---- the range of what was read
 
-closed-range : (a : After) (b : Bool) (values vs rest : List ℕ) → line vs rest ≡ closed a b values → (b ≡ true) × (vs ≡ values)
+pub closed-range : (a : After) (b : Bool) (values vs rest : List ℕ) → line vs rest ≡ closed a b values → (b ≡ true) × (vs ≡ values)
 unfolding closed
 closed-range absent b values vs rest e = let z : _≡_ {A = ℕ} 0 1 = cc in absurd (omega arith)
 closed-range (after text) false values vs rest e = let z : _≡_ {A = ℕ} 0 1 = cc in absurd (omega arith)
 closed-range (after text) true values vs rest e = (refl, cc)
 
-ended-range : (most : ℕ) (f : Fields) (vs rest : List ℕ) → line vs rest ≡ ended most f → inRange most vs ≡ true
+pub ended-range : (most : ℕ) (f : Fields) (vs rest : List ℕ) → line vs rest ≡ ended most f → inRange most vs ≡ true
 unfolding ended
 ended-range most noFields vs rest e = let z : _≡_ {A = ℕ} 0 1 = cc in absurd (omega arith)
 ended-range most (fields values text) vs rest e =

@@ -5,4 +5,5 @@ pub mod WriteLaws
 pub mod ReportLaws
 pub mod FillLaws
 pub mod JobLaws
+pub mod ToldLaws
 pub mod RoundTrip

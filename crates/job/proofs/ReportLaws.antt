@@ -2,10 +2,11 @@
 use Prim.Native.Nat.{ℕ, zero, suc, _+_, _-_, _*_, _≤_, _<_}
 use native.Mathlib.Nat.{zero-add}
 use native.Mathlib.Omega.{arith}
-use mathlib.Core.Bool.{Bool}
+use mathlib.Core.Bool.{Bool, true, false}
 use mathlib.Core.List.{List, [], _∷_, _++_, append-nil, append-assoc}
 use mathlib.Core.Path.{_≡_, refl, sym, ap, ap₂, _∙_, subst}
-use lib.ListN.{length, getD, drop, replicate}
+use lib.Dec.{leb}
+use lib.ListN.{length, getD, drop, replicate, length-append}
 use lib.Seq.{sets-eq}
 use borrow.Author.Tests.{lt-leb, le-leb}
 use Rattle.rules.specs.declared.Answer.{Answer}
@@ -248,3 +249,56 @@ module _ (a : Answer) (trace out : List ℕ) where
   pub written-refused : (number row : ℕ) → a .ended ≡ Ended.Refused number row → refusalWritten number row out ≡ reportWritten a trace out
   unfolding reportWritten endedWritten
   written-refused number row h = sym (ap (λ (e : Ended). endedWritten e a trace out) h)
+
+-- ---- a buffer with room for the longest report
+
+placed-alike : (room most : ℕ) (text out : List ℕ) → room ≤ length out → most ≤ length out → placedIn room text out ≡ placedIn most text out
+unfolding placedIn
+placed-alike room most text out h k =
+    ap (λ (b : Bool). fitted b text out) (le-leb room (length out) h ∙ sym (le-leb most (length out) k))
+
+report-refused : (a : Answer) (trace : List ℕ) (number row : ℕ) → a .ended ≡ Ended.Refused number row
+    → refusalText number row ≡ report (wholeOf a trace)
+unfolding report saidText wholeOf
+report-refused a trace number row e = sym (ap (λ (said : Said). saidText said (wholeOf a trace)) (ap saidOfRun e))
+
+module _ (room : ℕ) (out : List ℕ) (fits : room ≤ length out) where
+  -- what a refusal leaves in it
+  pub refusal-placed : (number at : ℕ) → mostRefusal ≤ room → refusalWritten number at out ≡ placedIn room (refusalText number at) out
+  unfolding refusalWritten
+  refusal-placed number at h = placed-alike mostRefusal room (refusalText number at) out (omega arith) fits
+
+  -- what an answer leaves in it, whose records the trace has
+  pub report-placed : (a : Answer) (trace : List ℕ) → recordWords * a .records ≤ length trace → mostRun (a .records) ≤ room
+      → reportWritten a trace out ≡ placedIn room (report (wholeOf a trace)) out
+  unfolding reportWritten endedWritten
+  report-placed a trace counted h = by (a .ended) refl
+    where
+      ran : runWritten (a .records) (report (wholeOf a trace)) trace out ≡ placedIn room (report (wholeOf a trace)) out
+      ran =
+          sym (run-counted (a .records) (report (wholeOf a trace)) trace out counted)
+          ∙ placed-alike (mostRun (a .records)) room (report (wholeOf a trace)) out (omega arith) fits
+
+      by : (e : Ended) → a .ended ≡ e → endedWritten e a trace out ≡ placedIn room (report (wholeOf a trace)) out
+      by Ended.Done e = ran
+      by (Ended.Stopped row) e = ran
+      by Ended.Spent e = ran
+      by (Ended.NoRoom row) e = ran
+      by (Ended.Refused number row) e =
+          refusal-placed number row (omega arith) ∙ ap (λ (text : List ℕ). placedIn room text out) (report-refused a trace number row e)
+
+-- the bytes that were written stand in the buffer
+pub written-within : (room : ℕ) (text out left : List ℕ) (wrote : Wrote) (count : ℕ) → wrote ≡ Wrote.Bytes count
+    → _≡_ {A = Written} (record { wrote = wrote; out = left }) (placedIn room text out) → count ≤ length left
+unfolding placedIn fitted
+written-within room text out left wrote count e w = by (leb room (length out)) w
+  where
+    by : (b : Bool) → _≡_ {A = Written} (record { wrote = wrote; out = left }) (fitted b text out) → count ≤ length left
+    by true h =
+        let b : wrote ≡ Wrote.Bytes (length text) = ap (λ (x : Written). x .wrote) h in
+        let n : count ≡ length text = cc in
+        omega (arith, ap (λ (x : Written). length (x .out)) h, length-append text (drop (length text) out))
+    by false h =
+        let b : wrote ≡ Wrote.TooShort = ap (λ (x : Written). x .wrote) h in
+        let z : _≡_ {A = ℕ} 0 1 = cc in
+        absurd (omega arith)

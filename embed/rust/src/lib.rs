@@ -7,6 +7,8 @@ mod library {
     extern "C" {
         pub fn buzorinde_judge(table: *const u32, table_words: usize, answer: *mut u32, answer_words: usize) -> u32;
 
+        pub fn buzorinde_check(table: *const u32, table_words: usize, marks: u32, answer: *mut u32, answer_words: usize) -> u32;
+
         pub fn buzorinde_run(
             table: *const u32,
             table_words: usize,
@@ -26,6 +28,7 @@ mod library {
 pub const VARIABLES: usize = 32;
 
 const JUDGE_WORDS: usize = 3;
+const CHECK_WORDS: usize = 4;
 const RUN_WORDS: usize = 6;
 
 /// What the judge says of a table.
@@ -33,6 +36,21 @@ const RUN_WORDS: usize = 6;
 pub enum Judged {
     Accepted,
     Refused { number: u32, row: u32 },
+}
+
+/// What the level check says of a table: pass, or fail with the lowest failing row.
+#[derive(Clone, Copy, Debug, PartialEq, Eq)]
+pub enum Checked {
+    Pass,
+    Fail(u32),
+    Refused { number: u32, row: u32 },
+}
+
+/// What the level check answers: its word, and the final marks.
+#[derive(Clone, Copy, Debug, PartialEq, Eq)]
+pub struct Advice {
+    pub checked: Checked,
+    pub marks: u32,
 }
 
 /// How a run ended: done, stopped by the monitor at an output's row, with its budget used up, or at an output's row without
@@ -65,6 +83,21 @@ pub fn judge(table: &[u32]) -> Judged {
         [0, ..] => Judged::Accepted,
         [number, _, row] => Judged::Refused { number, row },
     }
+}
+
+/// Checks the levels of a table from a mark set, without running it.
+pub fn check(table: &[u32], marks: u32) -> Advice {
+    let mut answer = [0; CHECK_WORDS];
+    // SAFETY: each pointer comes from a slice with its length, and only `answer` is written.
+    let status = unsafe { library::buzorinde_check(table.as_ptr(), table.len(), marks, answer.as_mut_ptr(), answer.len()) };
+    debug_assert_eq!(status, 0);
+    let [refusal, verdict, row, marks] = answer;
+    let checked = match (refusal, verdict) {
+        (0, 0) => Checked::Pass,
+        (0, _) => Checked::Fail(row),
+        (number, _) => Checked::Refused { number, row },
+    };
+    Advice { checked, marks }
 }
 
 /// Runs the recipe of a table under the monitor, within a budget of steps and the room that the trace has. Memory and trace

@@ -1,6 +1,6 @@
 //! The safe functions on cases that document 01 states.
 
-use buzorinde::{judge, run, Answer, Ended, Judged, VARIABLES};
+use buzorinde::{check, judge, run, Advice, Answer, Checked, Ended, Judged, VARIABLES};
 
 /// The whole case of document 01: v0 out on channel 0, then v1 out on channel 1.
 const WHOLE: [u32; 20] = [9, 0, 0, 0, 5, 0, 0, 0, 9, 1, 0, 0, 5, 1, 2, 0, 2, 1, 3, 0];
@@ -50,4 +50,14 @@ fn the_judge() {
     assert_eq!(judge(&WHOLE), Judged::Accepted);
     assert_eq!(judge(&[]), Judged::Refused { number: 1, row: 0 });
     assert_eq!(judge(&[0, 0, 0, 0, 7, 0, 0, 0]), Judged::Refused { number: 2, row: 1 });
+}
+
+#[test]
+fn the_level_check() {
+    assert_eq!(check(&WHOLE, 2), Advice { checked: Checked::Pass, marks: 2 });
+    assert_eq!(check(&B, 1), Advice { checked: Checked::Fail(3), marks: 1 });
+    assert_eq!(check(&WHOLE[..19], 7), Advice { checked: Checked::Refused { number: 1, row: 0 }, marks: 7 });
+    // v1 := v0 while v0 is provisional, then v1 is marked
+    let table = [9, 0, 0, 0, 1, 1, 0, 0];
+    assert_eq!(check(&table, 1), Advice { checked: Checked::Pass, marks: 3 });
 }

@@ -1,10 +1,10 @@
--- `cases::answer_judge` is safe and ends. The part that it lends has as many words as it says, since there are so many.
+-- `cases::answer_words` is safe and ends. The part that it lends has as many words as it says, since there are so many.
 use borrow.Author.Needs.{needs}
 use borrow.Table.Elements.{length-take-le}
 use mathlib.Core.Path.{sym}
 use native.Mathlib.Omega.{arith}
-use Rattle.cases.proofs.answer_judge.Statement.{statement}
-use Rattle.cases.proofs.answer_judge.Tie as tie
+use Rattle.cases.proofs.answer_words.Statement.{statement}
+use Rattle.cases.proofs.answer_words.Tie as tie
 
 number-at-requires : tie.Need-number-at-requires
 number-at-requires c κs = search needs
@@ -18,23 +18,23 @@ returns c = search needs
 array-borrow-prefix-words : tie.Need-array-borrow-prefix-words
 array-borrow-prefix-words c = search needs
 
-slice-aggregate-judge-read : tie.Need-slice-aggregate-judge-read
-slice-aggregate-judge-read c = sym (length-take-le _ _ (omega arith))
+slice-aggregate-answer-read : tie.Need-slice-aggregate-answer-read
+slice-aggregate-answer-read c = sym (length-take-le _ _ (omega arith))
 
-judge-read-requires : tie.Need-judge-read-requires
-judge-read-requires c κs = search needs
+answer-read-requires : tie.Need-answer-read-requires
+answer-read-requires c κs = search needs
 
 returns-2 : tie.Need-returns-2
 returns-2 c = search needs
 
-pub answer-judge-spec : {M : Type 1} → statement M
-answer-judge-spec =
+pub answer-words-spec : {M : Type 1} → statement M
+answer-words-spec =
     tie.close
     (tie.spec
     number-at-requires
     cast-count
     returns
     array-borrow-prefix-words
-    slice-aggregate-judge-read
-    judge-read-requires
+    slice-aggregate-answer-read
+    answer-read-requires
     returns-2)

@@ -1,0 +1,28 @@
+-- Document 01: "a program that reads a job and prints a report". The report of a job's bytes: what the job says is run by the
+-- rules, and the answer is reported.
+use Prim.Native.Nat.{ℕ, _*_}
+use mathlib.Core.List.{List}
+use Rattle.rules.specs.Limits.{width, recordWords}
+use Rattle.rules.specs.Answers.{Whole, answer}
+use Rattle.job.specs.Limits.{mostRoom}
+use Rattle.job.specs.Jobs.{Job, Told, told, untold, readJob}
+use Rattle.job.specs.Read.{filled}
+use Rattle.job.specs.Reports.{refusalText, report}
+use Rattle.job.specs.Written.{mostRun}
+
+-- the bytes of the longest report: that of a run whose records fill the most room
+abbrev pub mostReport : ℕ
+mostReport = mostRun mostRoom
+
+-- "that many `in=` lines for v0 onward (others 0)"; the trace has the words of as many records as there is room for
+unfoldable pub jobAnswer : Job → Whole
+jobAnswer job =
+    answer (job .table) (filled width (job .inputs)) (job .marks) (job .budget) (recordWords * job .room)
+
+-- "Then 1 to 5 apply": the run itself refuses a table, and its report is the refusal's.
+unfoldable pub toldReport : Told → List ℕ
+toldReport (told job) = report (jobAnswer job)
+toldReport (untold refusal at) = refusalText refusal at
+
+unfoldable pub jobReport : List ℕ → List ℕ
+jobReport text = toldReport (readJob text)

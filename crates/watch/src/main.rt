@@ -1,0 +1,32 @@
+// Reads a job from standard input and writes its report to standard output. Where a call of the system fails, a line on
+// standard error says so; then no report is begun, or no more of it is written.
+mod streams;
+
+use job::write::Wrote;
+use streams::Moved;
+
+// One byte more than a job may have, so that a longer one is seen to be too long.
+const TEXT_BYTES: usize = desk::JOB_BYTES + 1;
+
+// Writes the report of a job's bytes.
+fn report(text: &[u8]) {
+    let mut out = [0u8; desk::REPORT_BYTES];
+    let wrote = desk::answer_job(text, &mut out);
+    // such a buffer has room for every report
+    let Wrote::Bytes(count) = wrote else {
+        return;
+    };
+    if !streams::write_all(&out[..count]) {
+        os::fail(b"watch: cannot write the report");
+    }
+}
+
+fn main() {
+    let mut text = [0u8; TEXT_BYTES];
+    let got = streams::read_all(&mut text);
+    let Moved::Bytes(count) = got else {
+        os::fail(b"watch: cannot read the job");
+        return;
+    };
+    report(&text[..count]);
+}
