@@ -92,17 +92,18 @@ pub fn kind_of(word: u32) -> Kind
 pub fn roles_of(kind: Kind) -> Roles
     ensures { λ r. ⌜ r ≡ rolesOf kind ⌝ }
 {
+    let by_kind = ROLES;
     match kind {
-        Kind::Skip => ROLES[0],
-        Kind::Assign => ROLES[1],
-        Kind::Sequence => ROLES[2],
-        Kind::If => ROLES[3],
-        Kind::While => ROLES[4],
-        Kind::Output => ROLES[5],
-        Kind::Constant => ROLES[6],
-        Kind::Variable => ROLES[7],
-        Kind::Binary => ROLES[8],
-        Kind::Unknown => ROLES[9],
+        Kind::Skip => by_kind[0],
+        Kind::Assign => by_kind[1],
+        Kind::Sequence => by_kind[2],
+        Kind::If => by_kind[3],
+        Kind::While => by_kind[4],
+        Kind::Output => by_kind[5],
+        Kind::Constant => by_kind[6],
+        Kind::Variable => by_kind[7],
+        Kind::Binary => by_kind[8],
+        Kind::Unknown => by_kind[9],
     }
 }
 
