@@ -296,7 +296,7 @@ fn answer_operator(text: &[u8], start: usize) -> usize {
     let operator = number_at(text, start);
     let left = number_at(text, operator.next);
     let right = number_at(text, left.next);
-    let value = expression::operators::operated(operator.value, left.value, right.value);
+    let value = leaves::operators::operated(operator.value, left.value, right.value);
     write_first(value);
     write_end();
     right.next

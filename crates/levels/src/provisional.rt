@@ -1,5 +1,5 @@
 // "An expression is provisional when some variable read in it is marked."
-use expression::marks::has_mark;
+use leaves::marks::has_mark;
 use rules::Kind;
 use rules::Marks;
 use table::rows::read_row;

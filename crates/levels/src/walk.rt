@@ -1,8 +1,8 @@
 // The walk over a statement: what it makes of the marks, and which of its outputs fail.
 use crate::provisional::is_guarded;
-use expression::marks::joined;
-use expression::marks::with_mark;
-use expression::marks::without_mark;
+use leaves::marks::joined;
+use leaves::marks::with_mark;
+use leaves::marks::without_mark;
 use rules::Kind;
 use rules::Marks;
 use rules::VARIABLES;

@@ -1,11 +1,11 @@
 // One step of a run under the monitor, on the arrays in which the run's state stands.
 use expression::assigned::may_assign;
-use expression::marks::joined;
-use expression::marks::with_mark;
-use expression::marks::without_mark;
-use expression::memory::store_lent;
 use expression::values::Valued;
 use expression::values::evaluate;
+use leaves::marks::joined;
+use leaves::marks::with_mark;
+use leaves::marks::without_mark;
+use leaves::memory::store_lent;
 use rules::Kind;
 use rules::Marks;
 use rules::Row;

@@ -20,7 +20,7 @@ use borrow.Fn.PlainCycle.{Measures, is, falls, and}
 use Rattle.levels.proofs.provisional.is_provisional.Reads as is-provisional
 use Rattle.levels.proofs.provisional.is_provisional.Kinds as is-provisional-kinds
 use Rattle.levels.proofs.provisional.+is_provisional.Lts-is_provisional as is-provisional-lts
-use Rattle.expression.proofs.marks.has_mark.Reads as has-mark-reads
+use Rattle.leaves.proofs.marks.has_mark.Reads as has-mark-reads
 use Rattle.table.proofs.rows.read_row.Reads as read-row-reads
 use Rattle.levels.proofs.provisional.+is_provisional.{statement}
 use Rattle.levels.proofs.provisional.+is_provisional.Tie.{close}

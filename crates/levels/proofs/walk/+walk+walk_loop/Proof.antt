@@ -32,7 +32,7 @@ use Rattle.levels.proofs.walk.+walk+walk_loop.Lts-walk as walk-lts
 use Rattle.levels.proofs.walk.walk_loop.Reads as walk-loop
 use Rattle.levels.proofs.walk.walk_loop.Kinds as walk-loop-kinds
 use Rattle.levels.proofs.walk.+walk+walk_loop.Lts-walk_loop as walk-loop-lts
-use Rattle.expression.proofs.marks.joined.Reads as joined-reads
+use Rattle.leaves.proofs.marks.joined.Reads as joined-reads
 use Rattle.levels.proofs.provisional.is_guarded.Reads as is-guarded-reads
 use Rattle.levels.proofs.walk.failing_at.Reads as failing-at-reads
 use Rattle.levels.proofs.walk.lower.Reads as lower-reads

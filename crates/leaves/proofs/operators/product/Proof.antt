@@ -1,9 +1,9 @@
--- `expression::operators::product` meets its contract: the whole product fits 64 bits.
+-- `leaves::operators::product` meets its contract: the whole product fits 64 bits.
 use mathlib.Core.Path.{sym}
 use Rattle.rules.proofs.ValueLaws.{product-law, product-fits}
 use borrow.Author.Needs.{needs}
-use Rattle.expression.proofs.operators.product.Statement.{statement}
-use Rattle.expression.proofs.operators.product.Tie as tie
+use Rattle.leaves.proofs.operators.product.Statement.{statement}
+use Rattle.leaves.proofs.operators.product.Tie as tie
 
 mul-result : tie.Need-mul-result
 mul-result c = record { fits = product-fits (c .args .a) (c .args .b) (search needs) (search needs) }

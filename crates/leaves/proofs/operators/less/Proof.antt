@@ -1,8 +1,8 @@
--- `expression::operators::less` meets its contract.
+-- `leaves::operators::less` meets its contract.
 use mathlib.Core.Path.{sym}
 use Rattle.rules.proofs.ValueLaws.{less-law, not-less-law}
-use Rattle.expression.proofs.operators.less.Statement.{statement}
-use Rattle.expression.proofs.operators.less.Tie as tie
+use Rattle.leaves.proofs.operators.less.Statement.{statement}
+use Rattle.leaves.proofs.operators.less.Tie as tie
 
 returns : tie.Need-returns
 returns c = sym (less-law (c .before .args .a) (c .before .args .b) (c .if1 .taken))

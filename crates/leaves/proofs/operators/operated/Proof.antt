@@ -1,4 +1,4 @@
--- `expression::operators::operated` meets its contract: each arm is one operator.
+-- `leaves::operators::operated` meets its contract: each arm is one operator.
 use Prim.Native.Nat.{ℕ}
 use mathlib.Core.Path.{_≡_, sym, ap, _∙_}
 use Rattle.rules.specs.declared.Operator.{Operator}
@@ -6,8 +6,8 @@ use Rattle.rules.specs.Trees.{operatorOf}
 use Rattle.rules.specs.Values.{operate}
 use Rattle.rules.proofs.ValueLaws.{operators-law, operator-less, sum-law, difference-law}
 use borrow.Author.Needs.{needs}
-use Rattle.expression.proofs.operators.operated.Statement.{statement}
-use Rattle.expression.proofs.operators.operated.Tie as tie
+use Rattle.leaves.proofs.operators.operated.Statement.{statement}
+use Rattle.leaves.proofs.operators.operated.Tie as tie
 
 -- an operator that is given by its number
 numbered :

@@ -1,8 +1,8 @@
--- `expression::operators::equal` meets its contract.
+-- `leaves::operators::equal` meets its contract.
 use mathlib.Core.Path.{sym}
 use Rattle.rules.proofs.ValueLaws.{equal-law, unequal-law}
-use Rattle.expression.proofs.operators.equal.Statement.{statement}
-use Rattle.expression.proofs.operators.equal.Tie as tie
+use Rattle.leaves.proofs.operators.equal.Statement.{statement}
+use Rattle.leaves.proofs.operators.equal.Tie as tie
 
 returns : tie.Need-returns
 returns c = sym (equal-law (c .before .args .a) (c .before .args .b) (c .if1 .taken))

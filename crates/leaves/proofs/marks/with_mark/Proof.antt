@@ -1,12 +1,12 @@
--- `expression::marks::with_mark` meets its contract.
+-- `leaves::marks::with_mark` meets its contract.
 use Prim.Native.Nat.{_%_}
 use mathlib.Core.Path.{sym, ap, _∙_}
 use lib.Bits.{bitOr}
 use Rattle.rules.specs.Limits.{width}
 use Rattle.rules.proofs.MarkLaws.{put-true, only-power}
 use borrow.Author.Needs.{needs}
-use Rattle.expression.proofs.marks.with_mark.Statement.{statement}
-use Rattle.expression.proofs.marks.with_mark.Tie as tie
+use Rattle.leaves.proofs.marks.with_mark.Statement.{statement}
+use Rattle.leaves.proofs.marks.with_mark.Tie as tie
 
 only-mark-requires : tie.Need-only-mark-requires
 only-mark-requires c κs = search needs

@@ -1,9 +1,9 @@
--- `expression::operators::quotient` meets its contract.
+-- `leaves::operators::quotient` meets its contract.
 use mathlib.Core.Path.{sym}
 use Rattle.rules.proofs.ValueLaws.{quotient-none, quotient-law}
 use borrow.Author.Needs.{needs}
-use Rattle.expression.proofs.operators.quotient.Statement.{statement}
-use Rattle.expression.proofs.operators.quotient.Tie as tie
+use Rattle.leaves.proofs.operators.quotient.Statement.{statement}
+use Rattle.leaves.proofs.operators.quotient.Tie as tie
 
 returns : tie.Need-returns
 returns c = sym (quotient-none (c .before .args .a) (c .before .args .b) (c .if1 .taken))

@@ -1,4 +1,4 @@
--- `expression::marks::without_mark` meets its contract.
+-- `leaves::marks::without_mark` meets its contract.
 use Prim.Native.Nat.{ℕ, _-_, _%_, _^_}
 use native.Mathlib.Omega.{arith}
 use mathlib.Core.Path.{sym, ap, _∙_}
@@ -6,8 +6,8 @@ use lib.Bits.{bitAnd}
 use Rattle.rules.specs.Limits.{width}
 use Rattle.rules.proofs.MarkLaws.{put-false, only-power}
 use borrow.Author.Needs.{needs}
-use Rattle.expression.proofs.marks.without_mark.Statement.{statement}
-use Rattle.expression.proofs.marks.without_mark.Tie as tie
+use Rattle.leaves.proofs.marks.without_mark.Statement.{statement}
+use Rattle.leaves.proofs.marks.without_mark.Tie as tie
 
 only-mark-requires : tie.Need-only-mark-requires
 only-mark-requires c κs = search needs

@@ -1,8 +1,8 @@
--- `expression::marks::joined` meets its contract.
+-- `leaves::marks::joined` meets its contract.
 use mathlib.Core.Path.{sym}
 use Rattle.rules.proofs.MarkLaws.{union-or}
-use Rattle.expression.proofs.marks.joined.Statement.{statement}
-use Rattle.expression.proofs.marks.joined.Tie as tie
+use Rattle.leaves.proofs.marks.joined.Statement.{statement}
+use Rattle.leaves.proofs.marks.joined.Tie as tie
 
 returns : tie.Need-returns
 returns c = sym (union-or (c .args .a) (c .args .b))

@@ -1,9 +1,9 @@
--- `expression::marks::count_marks` meets its contract.
+-- `leaves::marks::count_marks` meets its contract.
 use borrow.Author.Needs.{needs}
 use mathlib.Core.Path.{sym}
 use Rattle.rules.proofs.MarkLaws.{marked-ones}
-use Rattle.expression.proofs.marks.count_marks.Statement.{statement}
-use Rattle.expression.proofs.marks.count_marks.Tie as tie
+use Rattle.leaves.proofs.marks.count_marks.Statement.{statement}
+use Rattle.leaves.proofs.marks.count_marks.Tie as tie
 
 returns : tie.Need-returns
 returns c = sym (marked-ones (c .args .marks) (search needs))

@@ -1,4 +1,4 @@
--- The proof of the cycle of calls {evaluate}: the row number falls, and each arm is one kind of expression.
+-- The proof of the cycle of calls {evaluate_lent}: the row number falls, and each arm is one kind of expression.
 use borrow.Author.Needs.{needs}
 use native.Mathlib.Omega.{arith}
 use native.Mathlib.Nat.{mod-eq-of-lt}
@@ -17,25 +17,25 @@ use Rattle.expression.proofs.ValuedLaws.{valued-constant, valued-binary
 use Prim.Native.Nat.{ℕ, _<_}
 use borrow.Fn.Kinds.{In}
 use borrow.Fn.PlainCycle.{Measures, is, falls, and}
-use Rattle.expression.proofs.values.evaluate.Reads as evaluate
-use Rattle.expression.proofs.values.evaluate.Kinds as evaluate-kinds
-use Rattle.expression.proofs.values.+evaluate.Lts-evaluate as evaluate-lts
-use Rattle.expression.proofs.marks.joined.Reads as joined-reads
-use Rattle.expression.proofs.operators.operated.Reads as operated-reads
+use Rattle.expression.proofs.values.evaluate_lent.Reads as evaluate
+use Rattle.expression.proofs.values.evaluate_lent.Kinds as evaluate-kinds
+use Rattle.expression.proofs.values.+evaluate_lent.Lts-evaluate_lent as evaluate-lts
+use Rattle.leaves.proofs.marks.joined.Reads as joined-reads
+use Rattle.leaves.proofs.operators.operated.Reads as operated-reads
 use Rattle.expression.proofs.values.read_variable.Reads as read-variable-reads
 use Rattle.table.proofs.rows.read_row.Reads as read-row-reads
-use Rattle.expression.proofs.values.+evaluate.{statement}
-use Rattle.expression.proofs.values.+evaluate.Tie.{close}
+use Rattle.expression.proofs.values.+evaluate_lent.{statement}
+use Rattle.expression.proofs.values.+evaluate_lent.Tie.{close}
 
-abbrev μ-evaluate : Measures 2 evaluate-kinds.ps ℕ
+abbrev μ-evaluate : Measures 3 evaluate-kinds.ps ℕ
 μ-evaluate κs a = a .1 .0
 
-abbrev evaluate-at : ℕ → In 2 evaluate-kinds.ps
-evaluate-at t = and 2 evaluate-kinds.ps (is 2 evaluate-kinds.ps μ-evaluate t) evaluate.Pre
+abbrev evaluate-at : ℕ → In 3 evaluate-kinds.ps
+evaluate-at t = and 3 evaluate-kinds.ps (is 3 evaluate-kinds.ps μ-evaluate t) evaluate.Pre
 
-abbrev evaluate-below : ℕ → In 2 evaluate-kinds.ps
+abbrev evaluate-below : ℕ → In 3 evaluate-kinds.ps
 evaluate-below t =
-    and 2 evaluate-kinds.ps (falls 2 evaluate-kinds.ps _<_ μ-evaluate t) evaluate.Pre
+    and 3 evaluate-kinds.ps (falls 3 evaluate-kinds.ps _<_ μ-evaluate t) evaluate.Pre
 
 abbrev calls : ℕ → evaluate-lts.Claims
 calls t = (
@@ -55,14 +55,14 @@ calls t = (
 module _ (t : ℕ) (c : evaluate-lts.After-read-row (calls t) (evaluate-at t) evaluate.Post) where
   words-as :
       {kind : Kind} → c .read-row .result .kind ≡ kind
-      → SoundRow (rowsOf (c .before .before .args .table .now)) (c .before .before .args .row) kind (c .read-row .result)
+      → SoundRow (rowsOf (c .before .before .args .table .now .now)) (c .before .before .args .row) kind (c .read-row .result)
   words-as = sound-as (c .before .before .pre .1 .0) (c .before .before .pre .1 .1) (c .read-row .ensures)
 
   below :
       {w : ℕ} → w < c .before .before .args .row
       → (w < t)
-      × (Sound (rowsOf (c .before .before .args .table .now))
-      × (w < length (rowsOf (c .before .before .args .table .now)))
+      × (Sound (rowsOf (c .before .before .args .table .now .now))
+      × (w < length (rowsOf (c .before .before .args .table .now .now)))
       × (length (c .before .before .args .words .now) ≡ width))
   below h =
       let pre = c .before .before .pre in
@@ -70,11 +70,11 @@ module _ (t : ℕ) (c : evaluate-lts.After-read-row (calls t) (evaluate-at t) ev
 
   of-row :
       {e : Expr} {r : Valued}
-      → exprNode (exprAt (rowsOf (c .before .before .args .table .now))) (c .read-row .result) (c .read-row .result .kind) ≡ e
+      → exprNode (exprAt (rowsOf (c .before .before .args .table .now .now))) (c .read-row .result) (c .read-row .result .kind) ≡ e
       → r ≡ valuedOf (c .before .before .args .words .now) (c .before .before .args .marks) e
       → r
       ≡ valuedOf (c .before .before .args .words .now) (c .before .before .args .marks)
-      (exprAt (rowsOf (c .before .before .args .table .now)) (c .before .before .args .row))
+      (exprAt (rowsOf (c .before .before .args .table .now .now)) (c .before .before .args .row))
   of-row e known =
       let start = c .before .before in
       known
@@ -97,11 +97,11 @@ evaluate-read-variable-requires t c κs = c .before .before .before .before .pre
 evaluate-enum-told-3 : (t : ℕ) → evaluate-lts.Need-enum-told-3 (calls t) (evaluate-at t) evaluate.Post
 evaluate-enum-told-3 t c = search needs
 
-evaluate-evaluate-requires : (t : ℕ) → evaluate-lts.Need-evaluate-requires (calls t) (evaluate-at t) evaluate.Post
+evaluate-evaluate-requires : (t : ℕ) → evaluate-lts.Need-evaluate-lent-requires (calls t) (evaluate-at t) evaluate.Post
 evaluate-evaluate-requires t c κs =
     below t (c .before .before) (binary-words (words-as t (c .before .before) (c .enum-told3 .given .1)) .0)
 
-evaluate-evaluate-requires-2 : (t : ℕ) → evaluate-lts.Need-evaluate-requires-2 (calls t) (evaluate-at t) evaluate.Post
+evaluate-evaluate-requires-2 : (t : ℕ) → evaluate-lts.Need-evaluate-lent-requires-2 (calls t) (evaluate-at t) evaluate.Post
 evaluate-evaluate-requires-2 t c κs =
     below t (c .before .before .before) (binary-words (words-as t (c .before .before .before) (c .before .enum-told3 .given .1)) .1)
 
@@ -128,13 +128,13 @@ evaluate-returns-3 t c =
     let told = both .before .before in
     let here = told .before .before in
     of-row t here (kind-arm (expr-arms _ _ .2) _ (told .before .match .keys3))
-    (valued-binary _ _ _ _ _ (both .before .evaluate .ensures) (both .evaluate2 .ensures) (c .before .operated .ensures) (c .joined .ensures))
+    (valued-binary _ _ _ _ _ (both .before .evaluate-lent .ensures) (both .evaluate-lent2 .ensures) (c .before .operated .ensures) (c .joined .ensures))
 
 evaluate-returns-4 : (t : ℕ) → evaluate-lts.Need-returns-4 (calls t) (evaluate-at t) evaluate.Post
 evaluate-returns-4 t c = of-row t (c .before) (kind-arm (expr-arms _ _ .3) _ (c .match .keys4)) (valued-constant _ _ _)
 
-pub +evaluate-spec : {M : Type 1} → statement M
-+evaluate-spec = close μ-evaluate λ t. evaluate-lts.spec (calls t)
+pub +evaluate-lent-spec : {M : Type 1} → statement M
++evaluate-lent-spec = close μ-evaluate λ t. evaluate-lts.spec (calls t)
     (evaluate-at t)
     evaluate.Post
     (evaluate-read-row-requires t)

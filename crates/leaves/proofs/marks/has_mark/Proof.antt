@@ -1,4 +1,4 @@
--- `expression::marks::has_mark` meets its contract.
+-- `leaves::marks::has_mark` meets its contract.
 use Prim.Native.Nat.{ℕ, _%_}
 use mathlib.Core.Bool.{not}
 use mathlib.Core.Path.{sym, ap, _∙_}
@@ -7,8 +7,8 @@ use lib.Dec.{eqb}
 use Rattle.rules.specs.Limits.{width}
 use Rattle.rules.proofs.MarkLaws.{has-bit, only-power}
 use borrow.Author.Needs.{needs}
-use Rattle.expression.proofs.marks.has_mark.Statement.{statement}
-use Rattle.expression.proofs.marks.has_mark.Tie as tie
+use Rattle.leaves.proofs.marks.has_mark.Statement.{statement}
+use Rattle.leaves.proofs.marks.has_mark.Tie as tie
 
 only-mark-requires : tie.Need-only-mark-requires
 only-mark-requires c κs = search needs

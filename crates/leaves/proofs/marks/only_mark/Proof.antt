@@ -1,12 +1,12 @@
--- `expression::marks::only_mark` meets its contract.
+-- `leaves::marks::only_mark` meets its contract.
 use Prim.Native.Nat.{_%_}
 use native.Mathlib.Omega.{arith}
 use mathlib.Core.Path.{sym, _∙_}
 use Rattle.rules.specs.Limits.{width}
 use Rattle.rules.proofs.MarkLaws.{only-power, shift-one}
 use borrow.Author.Needs.{needs}
-use Rattle.expression.proofs.marks.only_mark.Statement.{statement}
-use Rattle.expression.proofs.marks.only_mark.Tie as tie
+use Rattle.leaves.proofs.marks.only_mark.Statement.{statement}
+use Rattle.leaves.proofs.marks.only_mark.Tie as tie
 
 cast-result : tie.Need-cast-result
 cast-result c = search needs
