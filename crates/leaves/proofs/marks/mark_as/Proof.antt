@@ -1,12 +1,12 @@
--- `step::mark_as` meets its contract.
+-- `leaves::marks::mark_as` meets its contract.
 use mathlib.Core.Path.{sym, ap, _∙_}
 use mathlib.Core.Bool.{Bool}
 use Prim.Native.Nat.{_%_}
 use Rattle.rules.specs.Limits.{width}
 use Rattle.rules.specs.Marks.{put}
 use borrow.Author.Needs.{needs}
-use Rattle.step.proofs.mark_as.Statement.{statement}
-use Rattle.step.proofs.mark_as.Tie as tie
+use Rattle.leaves.proofs.marks.mark_as.Statement.{statement}
+use Rattle.leaves.proofs.marks.mark_as.Tie as tie
 
 with-mark-requires : tie.Need-with-mark-requires
 with-mark-requires c κs = search needs
