@@ -3,6 +3,7 @@ use job::Read;
 use report::Wrote;
 use rules::Marks;
 use rules::Memory;
+use rules::ROW_WORDS;
 ghost use mathlib.Core.Path.{_≡_};
 ghost use Prim.Native.Nat.{_*_, _≤_};
 ghost use lib.ListN.{length};
@@ -17,8 +18,6 @@ ghost use Rattle.desk.specs.Desk.{mostReport, jobReport};
 pub const JOB_BYTES: usize = 32768;
 
 pub const REPORT_BYTES: usize = 213456;
-
-const ROW_WORDS: usize = 4;
 
 const RECORD_WORDS: usize = 2;
 

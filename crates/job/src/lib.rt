@@ -1,6 +1,8 @@
 // Reads a job. Every function here takes the whole text and a place in it.
+use rules::MOST_ROWS;
 use rules::Marks;
 use rules::Memory;
+use rules::ROW_WORDS;
 use rules::VARIABLES;
 ghost use mathlib.Core.Path.{_≡_};
 ghost use mathlib.Core.Bool.{true};
@@ -23,13 +25,7 @@ const MOST_WORD: u64 = 4294967295;
 
 const MOST_ROOM: u64 = 8192;
 
-const MOST_INPUTS: u64 = 32;
-
-const MOST_ROWS: u64 = 512;
-
-const ROW_WORDS: usize = 4;
-
-const TABLE_WORDS: usize = 2048;
+const TABLE_WORDS: usize = MOST_ROWS * ROW_WORDS;
 
 const FIRST_INPUT: u32 = 5;
 
@@ -395,7 +391,7 @@ fn read_table(
         r
         ≡ reading (readTable budget room marks (firstInput + inputs) (take inputs (memory .words)) (drop at (now (text .entry)))) ⌝ }
 {
-    let count = read_line(text, at, b"rows=", MOST_ROWS);
+    let count = read_line(text, at, b"rows=", MOST_ROWS as u64);
     match count {
         Line::Faulty(number) => refused(number, FIRST_INPUT + inputs),
         Line::Number { value, next } => {
@@ -442,7 +438,7 @@ fn read_inputs(text: &[u8], at: usize, budget: u32, room: u32, marks: Marks, inp
 fn read_count(text: &[u8], at: usize, budget: u32, room: u32, marks: Marks) -> Reading
     ensures { λ r. ⌜ r ≡ reading (readCount budget room marks (drop at (now (text .entry)))) ⌝ }
 {
-    let line = read_line(text, at, b"inputs=", MOST_INPUTS);
+    let line = read_line(text, at, b"inputs=", VARIABLES as u64);
     match line {
         Line::Faulty(number) => refused(number, 4),
         Line::Number { value, next } => read_inputs(text, next, budget, room, marks, value),

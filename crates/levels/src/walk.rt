@@ -2,10 +2,10 @@
 use crate::provisional::is_guarded;
 use leaves::marks::joined;
 use leaves::marks::mark_as;
+use rows::read_row;
 use rules::Kind;
 use rules::Marks;
 use rules::VARIABLES;
-use table::rows::read_row;
 ghost use mathlib.Core.Bool.{_&&_};
 ghost use mathlib.Core.Path.{_≡_};
 ghost use Prim.Native.Nat.{ℕ, _+_, _<_};

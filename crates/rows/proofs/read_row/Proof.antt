@@ -1,11 +1,11 @@
--- `table::rows::read_row` meets its contract.
+-- `rows::read_row` meets its contract.
 use Prim.Native.Nat.{_+_, _*_, _<_}
 use native.Mathlib.Omega.{arith}
 use lib.ListN.{length}
 use Rattle.rules.proofs.RowLaws.{row-within, row-read}
 use borrow.Author.Needs.{needs}
-use Rattle.table.proofs.rows.read_row.Statement.{statement}
-use Rattle.table.proofs.rows.read_row.Tie as tie
+use Rattle.rows.proofs.read_row.Statement.{statement}
+use Rattle.rows.proofs.read_row.Tie as tie
 
 -- the row's four words stand within the table
 four : (c : tie.Start) → c .args .row * 4 + 3 < length (c .args .table .now)

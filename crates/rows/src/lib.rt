@@ -1,15 +1,15 @@
-// The rows of a table of words.
+// The rows of a table of words, and the kinds of rows.
+pub mod kinds;
+
 use crate::kinds::kind_of;
 use rules::Kind;
+use rules::ROW_WORDS;
 use rules::Row;
 ghost use mathlib.Core.Path.{_≡_};
 ghost use Prim.Native.Nat.{_<_};
 ghost use lib.Dec.{ltb};
 ghost use lib.ListN.{length};
 ghost use Rattle.rules.specs.Rows.{rowsOf, rowAt};
-
-// "A row is four words: kind, p, q, r."
-pub const ROW_WORDS: usize = 4;
 
 // The row of a number, for callers that know that the table has it.
 pub fn read_row(table: &[u32], row: u32) -> Row

@@ -1,11 +1,11 @@
--- `table::rows::row_at` meets its contract.
+-- `rows::row_at` meets its contract.
 use mathlib.Core.Path.{sym, _∙_}
 use borrow.Author.Tests.{ltb-true, ltb-false}
 use Rattle.rules.specs.Rows.{rowsOf}
 use Rattle.rules.proofs.RowLaws.{row-none}
 use borrow.Author.Needs.{needs}
-use Rattle.table.proofs.rows.row_at.Statement.{statement}
-use Rattle.table.proofs.rows.row_at.Tie as tie
+use Rattle.rows.proofs.row_at.Statement.{statement}
+use Rattle.rows.proofs.row_at.Tie as tie
 
 has-row-requires : tie.Need-has-row-requires
 has-row-requires c κs = search needs
