@@ -3,7 +3,8 @@
 //! Each function here lends buffers of the length that the library asks for, so that no call is refused for a short one, and
 //! turns the answer's words into the enum that they stand for.
 
-mod library {
+/// The functions for C as they are, for callers that lend buffers of any length.
+pub mod library {
     extern "C" {
         pub fn buzorinde_judge(table: *const u32, table_words: usize, answer: *mut u32, answer_words: usize) -> u32;
 
@@ -27,9 +28,10 @@ mod library {
 /// How many variables a memory has.
 pub const VARIABLES: usize = 32;
 
-const JUDGE_WORDS: usize = 3;
-const CHECK_WORDS: usize = 4;
-const RUN_WORDS: usize = 6;
+/// How many words each function's answer takes.
+pub const JUDGE_WORDS: usize = 3;
+pub const CHECK_WORDS: usize = 4;
+pub const RUN_WORDS: usize = 6;
 
 /// What the judge says of a table.
 #[derive(Clone, Copy, Debug, PartialEq, Eq)]

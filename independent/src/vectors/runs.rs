@@ -289,11 +289,17 @@ fn traces() -> Vec<Vector> {
         .collect()
 }
 
-/// Every record that a job can have, and one more.
+/// Every record that a job can have, and one more; also with the longest numbers in every line of the report that can have them.
 fn full_room() -> Vec<Vector> {
-    let endless = set(while_do(constant(1), i()), &[]).budget(u32::MAX);
-    let job = endless.room(8192).job_text();
-    vec![Vector::job("room-8192-is-filled", job)]
+    let filled = |body: Part, inputs: &[u32]| {
+        let endless = set(while_do(constant(1), body), inputs).budget(u32::MAX);
+        endless.room(8192)
+    };
+    let long = filled(output(PROVISIONAL, variable(0)), &[u32::MAX; 32]).levels(u32::MAX);
+    vec![
+        Vector::job("room-8192-is-filled", filled(i(), &[]).job_text()),
+        Vector::job("room-8192-is-filled-with-long-records", long.job_text()),
+    ]
 }
 
 /// Random recipes, every second one as a job.

@@ -1,0 +1,135 @@
+// Kinds: which one a word says, what each of the three words of a row is, and which kinds are statements or expressions.
+use rules::Kind;
+use rules::Role;
+use rules::Roles;
+ghost use denote.Enum.Declared.{tagOf};
+ghost use mathlib.Core.Path.{_≡_};
+ghost use Rattle.rules.proofs.Kind.{the-type};
+ghost use Rattle.rules.specs.Rows.{kindOf, rolesOf, isStatement, isExpression};
+
+// "Which word is a variable, a row or a constant is fixed for each kind": by the kind's place in `Kind`.
+const ROLES: [Roles; 10] = [
+    // skip
+    Roles {
+        p: Role::Unnamed,
+        q: Role::Unnamed,
+        r: Role::Unnamed,
+    },
+    // assign: variable, expression row
+    Roles {
+        p: Role::Variable,
+        q: Role::Expression,
+        r: Role::Unnamed,
+    },
+    // sequence: first statement, second statement
+    Roles {
+        p: Role::Statement,
+        q: Role::Statement,
+        r: Role::Unnamed,
+    },
+    // if: expression, then, else
+    Roles {
+        p: Role::Expression,
+        q: Role::Statement,
+        r: Role::Statement,
+    },
+    // while: expression, body
+    Roles {
+        p: Role::Expression,
+        q: Role::Statement,
+        r: Role::Unnamed,
+    },
+    // output: channel, expression
+    Roles {
+        p: Role::Channel,
+        q: Role::Expression,
+        r: Role::Unnamed,
+    },
+    // constant: value
+    Roles {
+        p: Role::Value,
+        q: Role::Unnamed,
+        r: Role::Unnamed,
+    },
+    // variable: variable
+    Roles {
+        p: Role::Variable,
+        q: Role::Unnamed,
+        r: Role::Unnamed,
+    },
+    // binary: operator, left, right
+    Roles {
+        p: Role::Operator,
+        q: Role::Expression,
+        r: Role::Expression,
+    },
+    // unknown
+    Roles {
+        p: Role::Unnamed,
+        q: Role::Unnamed,
+        r: Role::Unnamed,
+    },
+];
+
+// The kind that a row's first word says.
+pub fn kind_of(word: u32) -> Kind
+    ensures { λ r. ⌜ r ≡ kindOf word ⌝ }
+{
+    match word {
+        0 => Kind::Skip,
+        1 => Kind::Assign,
+        2 => Kind::Sequence,
+        3 => Kind::If,
+        4 => Kind::While,
+        5 => Kind::Output,
+        8 => Kind::Constant,
+        9 => Kind::Variable,
+        10 => Kind::Binary,
+        _ => Kind::Unknown,
+    }
+}
+
+// The kind's place in `Kind`, by which the table of roles is read.
+fn place_of(kind: Kind) -> usize
+    ensures { λ r. ⌜ r ≡ tagOf the-type kind ⌝ }
+{
+    match kind {
+        Kind::Skip => 0,
+        Kind::Assign => 1,
+        Kind::Sequence => 2,
+        Kind::If => 3,
+        Kind::While => 4,
+        Kind::Output => 5,
+        Kind::Constant => 6,
+        Kind::Variable => 7,
+        Kind::Binary => 8,
+        Kind::Unknown => 9,
+    }
+}
+
+// What each of the three words is in a row of the kind.
+pub fn roles_of(kind: Kind) -> Roles
+    ensures { λ r. ⌜ r ≡ rolesOf kind ⌝ }
+{
+    ROLES[place_of(kind)]
+}
+
+// Whether a row of the kind is a statement.
+pub fn is_statement(kind: Kind) -> bool
+    ensures { λ r. ⌜ r ≡ isStatement kind ⌝ }
+{
+    match kind {
+        Kind::Skip | Kind::Assign | Kind::Sequence | Kind::If | Kind::While | Kind::Output => true,
+        _ => false,
+    }
+}
+
+// Whether a row of the kind is an expression.
+pub fn is_expression(kind: Kind) -> bool
+    ensures { λ r. ⌜ r ≡ isExpression kind ⌝ }
+{
+    match kind {
+        Kind::Constant | Kind::Variable | Kind::Binary => true,
+        _ => false,
+    }
+}
