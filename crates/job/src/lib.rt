@@ -17,17 +17,17 @@ ghost use Rattle.job.specs.Jobs.{untold, inLine, rowLine, readTable, rea
 ghost use Rattle.job.specs.Read.{keySaid, fieldSaid, lineSaid, rowSaid, LinesRead, filled, reading};
 
 // Document 01's numbers of a job, as `specs/Limits` has them.
-const MOST_BYTES: usize = 32768;
+pub const MOST_BYTES: usize = 32768;
 
 const MOST_WORD: u64 = 4294967295;
 
-const MOST_ROOM: u64 = 8192;
+pub const MOST_ROOM: u64 = 8192;
 
 const MOST_INPUTS: u64 = 32;
 
 const MOST_ROWS: u64 = 512;
 
-const ROW_WORDS: usize = 4;
+pub const ROW_WORDS: usize = 4;
 
 const TABLE_WORDS: usize = 2048;
 
