@@ -14,6 +14,8 @@ const MOST_JUDGED_WORDS: usize = 64;
 /// Run cases whose table has at most so many words, and whose trace has at most so many.
 const MOST_RUN_WORDS: usize = 128;
 const MOST_TRACE_WORDS: usize = 64;
+/// Level check cases with at most so many words.
+const MOST_CHECKED_WORDS: usize = 160;
 /// Longer cases that are in the stream all the same: a limit met, or just exceeded.
 const LONGER: [&str; 5] = [
     "judge-2048-words",
@@ -89,6 +91,12 @@ impl Numbered {
                 ("2", run_numbers(&answered))
             }
             "operator" => ("3", answered.numbers()),
+            "levels" => {
+                if asked.count("count") > MOST_CHECKED_WORDS {
+                    return None;
+                }
+                ("4", told_numbers(&answered))
+            }
             _ => return None,
         };
         let mut question = vec![code.to_string()];
@@ -97,12 +105,17 @@ impl Numbered {
     }
 }
 
-/// Whether it was refused, then the answer without the trace's length; of a long trace only the
-/// records.
-fn run_numbers(answered: &Lines) -> Vec<String> {
+/// Whether it was refused, then the answer.
+fn told_numbers(answered: &Lines) -> Vec<String> {
     let refused = answered.0[0].0 == "refused";
     let mut numbers = vec![u32::from(refused).to_string()];
-    numbers.extend(answered.without("lent").without("trace").numbers());
+    numbers.extend(answered.numbers());
+    numbers
+}
+
+/// The same without the trace's length; of a long trace only the records.
+fn run_numbers(answered: &Lines) -> Vec<String> {
+    let mut numbers = told_numbers(&answered.without("lent").without("trace"));
     let trace = answered.only("trace").numbers();
     let shown = if trace.len() > MOST_TRACE_WORDS {
         RECORD_WORDS * answered.count("records")

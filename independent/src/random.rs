@@ -9,10 +9,10 @@ use crate::table::{judge, words_of, Row, Word, MOST_LOOP_NESTING, MOST_ROWS, ROW
 use crate::tree::Memory;
 
 /// Recipes read and assign few variables, so that flows between them are common.
-const DATA_VARIABLES: u32 = 5;
+pub const DATA_VARIABLES: u32 = 5;
 /// Counters of loops that end: one for each depth of loops, assigned nowhere else.
 const FIRST_COUNTER: u32 = DATA_VARIABLES;
-const OPERATORS: u32 = 6;
+pub const OPERATORS: u32 = 6;
 
 pub struct Random(u64);
 
@@ -81,7 +81,8 @@ impl Random {
         }
     }
 
-    fn statement(&mut self, depth: u32, loops: u32) -> Part {
+    /// A statement nested at most `depth` deep, for a place inside so many loops.
+    pub fn statement(&mut self, depth: u32, loops: u32) -> Part {
         if depth == 0 {
             return self.simple();
         }
@@ -97,14 +98,16 @@ impl Random {
                 if_else(test, then, self.statement(depth - 1, loops))
             }
             _ if loops == MOST_LOOP_NESTING => self.simple(),
-            _ => self.repeated(depth, loops),
+            _ => {
+                let body = self.statement(depth - 1, loops + 1);
+                self.repeated(body, loops)
+            }
         }
     }
 
     /// A loop that counts down and ends, or one with any test, which may be endless.
-    fn repeated(&mut self, depth: u32, loops: u32) -> Part {
+    pub fn repeated(&mut self, body: Part, loops: u32) -> Part {
         let counter = FIRST_COUNTER + loops;
-        let body = self.statement(depth - 1, loops + 1);
         if self.percent(25) {
             return while_do(self.expression(2), body);
         }
@@ -117,7 +120,8 @@ impl Random {
         sequence(assign(counter, start), counted)
     }
 
-    fn simple(&mut self) -> Part {
+    /// A statement without statements in it.
+    pub fn simple(&mut self) -> Part {
         match self.below(8) {
             0 => skip(),
             1..=4 => assign(self.below(DATA_VARIABLES), self.expression(3)),
@@ -126,7 +130,8 @@ impl Random {
         }
     }
 
-    fn expression(&mut self, height: u32) -> Part {
+    /// An expression of at most this height.
+    pub fn expression(&mut self, height: u32) -> Part {
         match self.below(6) {
             0 | 1 => variable(self.below(DATA_VARIABLES)),
             2 => variable(self.below(DATA_VARIABLES + MOST_LOOP_NESTING)),

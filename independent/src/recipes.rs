@@ -54,6 +54,11 @@ pub fn binary(operator: u32, left: Part, right: Part) -> Part {
 
 /// Statements one after the other, leaning to the right: one; (two; (three; ...)).
 pub fn all<const N: usize>(statements: [Part; N]) -> Part {
+    all_right(statements.into())
+}
+
+/// The same, for any number of statements.
+pub fn all_right(statements: Vec<Part>) -> Part {
     let joined = statements.into_iter().rev();
     joined
         .reduce(|rest, first| sequence(first, rest))

@@ -5,7 +5,7 @@ use crate::table::{judge, Refusal};
 use crate::tree::{Expression, Memory, Statement, SETTLED};
 
 /// 6: "the lent trace exceeds 16,384 words"
-const MOST_TRACE_WORDS: usize = 16_384;
+pub const MOST_TRACE_WORDS: usize = 16_384;
 /// "A record is two trace words: channel, value."
 pub const RECORD_WORDS: usize = 2;
 

@@ -8,8 +8,8 @@ pub const ROW_WORDS: usize = 4;
 /// "over 512 rows"
 pub const MOST_ROWS: usize = 512;
 /// "expression height over 16, nesting over 8 or loop nesting over 3"
-const MOST_HEIGHT: u32 = 16;
-const MOST_NESTING: u32 = 8;
+pub const MOST_HEIGHT: u32 = 16;
+pub const MOST_NESTING: u32 = 8;
 pub const MOST_LOOP_NESTING: u32 = 3;
 
 /// "Kinds 0 to 5 are statements, 8 to 10 expressions."

@@ -1,16 +1,27 @@
 // Reads cases, one number a line, and writes what the proved functions answer, one case a line. The crate's `stdin` and
 // `stdout` are written by the independent implementation (independent/regenerate), so the check holds the two to each other.
 //
-// A case is a code and what it asks: 1 the judge, 2 the run, 3 an operator. A 0, or a number that lacks its form, ends it all.
+// A case is a code and what it asks. A 0, or a number that lacks its form, ends it all.
 use libc::STDIN_FILENO;
 use libc::STDOUT_FILENO;
+use rules::Advice;
 use rules::Answer;
+use rules::Checked;
 use rules::Ended;
 use rules::Judged;
 use rules::Marks;
 use rules::Memory;
 use rules::VARIABLES;
 ghost use Prim.Native.Nat.{_<_};
+
+// The codes of the cases.
+const JUDGE: u32 = 1;
+
+const RUN: u32 = 2;
+
+const OPERATOR: u32 = 3;
+
+const LEVELS: u32 = 4;
 
 const MOST_BYTES: usize = 262144;
 
@@ -124,7 +135,7 @@ fn write_judged(judged: Judged) {
     }
 }
 
-// How a run ended: whether it was refused, and by what; else its verdict and place.
+// How a call ended: whether it was refused, then a number and a row.
 fn write_ended(refused: u32, number: u32, row: u32) {
     write_first(refused);
     write_number(number);
@@ -151,6 +162,23 @@ fn write_end_of_run(ended: Ended) {
     }
 }
 
+// Whether the check was refused, and by what; else whether it failed, and where; then the marks.
+fn write_advice(advice: Advice) {
+    let checked = advice.checked;
+    match checked {
+        Checked::Pass => {
+            write_ended(0, 0, 0);
+        }
+        Checked::Fail(row) => {
+            write_ended(0, 1, row);
+        }
+        Checked::Refused { number, row } => {
+            write_ended(1, number, row);
+        }
+    }
+    write_number(advice.marks);
+}
+
 // The whole of a short trace; of a long one its records.
 fn write_trace(records: u32, trace: &[u32]) {
     if trace.len() <= MOST_SHOWN_WORDS {
@@ -174,40 +202,37 @@ fn write_answer(answer: Answer) {
     write_number(answer.records);
 }
 
-// A case of the judge: word count, words.
-fn answer_judge(text: &[u8], start: usize) -> usize {
+// A case of a table: word count, words, and what the code asks further.
+fn answer_words(text: &[u8], start: usize, code: u32) -> usize {
     let number = number_at(text, start);
     let count = number.value as usize;
     if MOST_WORDS < count {
         return text.len();
     }
     let mut words = [0u32; MOST_WORDS];
-    judge_read(text, number.next, &mut words[..count])
-}
-
-// Reads the words, and writes what the judge says of them.
-fn judge_read(text: &[u8], start: usize, words: &mut [u32]) -> usize {
-    let next = read_words(text, start, words);
-    write_judged(table::judge(words));
-    write_end();
-    next
-}
-
-// A case of the run: word count, words, memory, marks, budget, trace word count, trace words.
-fn answer_run(text: &[u8], start: usize) -> usize {
-    let number = number_at(text, start);
-    let count = number.value as usize;
-    if MOST_WORDS < count {
-        return text.len();
-    }
-    let mut words = [0u32; MOST_WORDS];
-    run_read(text, number.next, &mut words[..count])
+    answer_read(text, number.next, code, &mut words[..count])
 }
 
 // Reads the words, and goes on with their case.
-fn run_read(text: &[u8], start: usize, words: &mut [u32]) -> usize {
+fn answer_read(text: &[u8], start: usize, code: u32, words: &mut [u32]) -> usize {
     let next = read_words(text, start, words);
-    answer_table(text, next, words)
+    if code == JUDGE {
+        write_judged(table::judge(words));
+        write_end();
+        return next;
+    }
+    if code == LEVELS {
+        return answer_levels(text, next, words);
+    }
+    answer_run(text, next, words)
+}
+
+// A case of the level check, after its words: marks.
+fn answer_levels(text: &[u8], start: usize, table: &[u32]) -> usize {
+    let marks = number_at(text, start);
+    write_advice(levels::check(table, marks.value));
+    write_end();
+    marks.next
 }
 
 // The memory words from there on, and where the next number starts.
@@ -225,8 +250,8 @@ fn memory_at(text: &[u8], start: usize) -> Given {
     }
 }
 
-// Reads what a run of the table is given, but for the words of the trace.
-fn answer_table(text: &[u8], start: usize, table: &[u32]) -> usize {
+// A case of the run, after its words: memory, marks, budget, trace word count, trace words.
+fn answer_run(text: &[u8], start: usize, table: &[u32]) -> usize {
     let given = memory_at(text, start);
     let marks = number_at(text, given.next);
     let budget = number_at(text, marks.next);
@@ -271,7 +296,7 @@ fn answer_operator(text: &[u8], start: usize) -> usize {
     let operator = number_at(text, start);
     let left = number_at(text, operator.next);
     let right = number_at(text, left.next);
-    let value = expression::operators::operated(operator.value, left.value, right.value);
+    let value = leaves::operators::operated(operator.value, left.value, right.value);
     write_first(value);
     write_end();
     right.next
@@ -280,14 +305,12 @@ fn answer_operator(text: &[u8], start: usize) -> usize {
 // Answers the case that starts there, and says where the next one starts.
 fn answer_one(text: &[u8], start: usize) -> usize {
     let code = number_at(text, start);
-    if code.value == 1 {
-        return answer_judge(text, code.next);
-    }
-    if code.value == 2 {
-        return answer_run(text, code.next);
-    }
-    if code.value == 3 {
+    let asked = code.value;
+    if asked == OPERATOR {
         return answer_operator(text, code.next);
+    }
+    if asked == JUDGE || asked == RUN || asked == LEVELS {
+        return answer_words(text, code.next, asked);
     }
     text.len()
 }

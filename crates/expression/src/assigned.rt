@@ -1,6 +1,6 @@
 // What a statement may assign: "every variable that stands on the left of an assignment anywhere in the statement".
-use crate::marks::joined;
-use crate::marks::only_mark;
+use leaves::marks::joined;
+use leaves::marks::only_mark;
 use rules::Judged;
 use rules::Kind;
 use rules::Marks;
@@ -22,20 +22,34 @@ pub enum Assigned {
     Refused { number: u32, row: u32 },
 }
 
+// The variables that the statement at a row may assign. The table's slice is lent in turn, as in `evaluate_lent`.
+fn may_assign_lent(table: &&[u32], row: u32) -> Marks
+    requires { ⌜ Sound (rowsOf (now (now table))) × (row < length (rowsOf (now (now table)))) ⌝ }
+    ensures { λ r. ⌜ r ≡ mayAssign (stmtAt (rowsOf (now (now (table .entry)))) row) ⌝ }
+{
+    let here = read_row(*table, row);
+    let kind = here.kind;
+    match kind {
+        Kind::Assign => only_mark(here.p),
+        Kind::Sequence => joined(
+            may_assign_lent(table, here.p),
+            may_assign_lent(table, here.q),
+        ),
+        Kind::If => joined(
+            may_assign_lent(table, here.q),
+            may_assign_lent(table, here.r),
+        ),
+        Kind::While => may_assign_lent(table, here.q),
+        _ => 0,
+    }
+}
+
 // The variables that the statement at a row may assign, for callers that hold a judged table.
 pub fn may_assign(table: &[u32], row: u32) -> Marks
     requires { ⌜ Sound (rowsOf (now table)) × (row < length (rowsOf (now table))) ⌝ }
     ensures { λ r. ⌜ r ≡ mayAssign (stmtAt (rowsOf (now (table .entry))) row) ⌝ }
 {
-    let here = read_row(table, row);
-    let kind = here.kind;
-    match kind {
-        Kind::Assign => only_mark(here.p),
-        Kind::Sequence => joined(may_assign(table, here.p), may_assign(table, here.q)),
-        Kind::If => joined(may_assign(table, here.q), may_assign(table, here.r)),
-        Kind::While => may_assign(table, here.q),
-        _ => 0,
-    }
+    may_assign_lent(&table, row)
 }
 
 // The variables that the statement at a row of any table may assign: the table is judged first. A row that the table does

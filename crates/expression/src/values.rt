@@ -1,9 +1,9 @@
 // An expression's value and level.
-use crate::marks::has_mark;
-use crate::marks::joined;
-use crate::marks::only_mark;
-use crate::memory::read_lent;
-use crate::operators::operated;
+use leaves::marks::has_mark;
+use leaves::marks::joined;
+use leaves::marks::only_mark;
+use leaves::memory::read_lent;
+use leaves::operators::operated;
 use rules::Judged;
 use rules::Kind;
 use rules::Marks;
@@ -48,12 +48,12 @@ fn read_variable(words: &[u32; VARIABLES], marks: Marks, v: u32) -> Valued
     Valued { value, level: 0 }
 }
 
-// The value and level of the expression at a row, for callers that hold a judged table.
-pub fn evaluate(table: &[u32], row: u32, words: &[u32; VARIABLES], marks: Marks) -> Valued
-    requires { ⌜ Sound (rowsOf (now table)) × (row < length (rowsOf (now table))) × (length (now words) ≡ width) ⌝ }
-    ensures { λ r. ⌜ r ≡ valuedOf (now (words .entry)) marks (exprAt (rowsOf (now (table .entry))) row) ⌝ }
+// The value and level of the expression at a row. The table's slice is lent in turn, so that a call hands on an address alone.
+fn evaluate_lent(table: &&[u32], row: u32, words: &[u32; VARIABLES], marks: Marks) -> Valued
+    requires { ⌜ Sound (rowsOf (now (now table))) × (row < length (rowsOf (now (now table)))) × (length (now words) ≡ width) ⌝ }
+    ensures { λ r. ⌜ r ≡ valuedOf (now (words .entry)) marks (exprAt (rowsOf (now (now (table .entry)))) row) ⌝ }
 {
-    let here = read_row(table, row);
+    let here = read_row(*table, row);
     let kind = here.kind;
     match kind {
         Kind::Constant => Valued {
@@ -62,8 +62,8 @@ pub fn evaluate(table: &[u32], row: u32, words: &[u32; VARIABLES], marks: Marks)
         },
         Kind::Variable => read_variable(words, marks, here.p),
         Kind::Binary => {
-            let left = evaluate(table, here.q, words, marks);
-            let right = evaluate(table, here.r, words, marks);
+            let left = evaluate_lent(table, here.q, words, marks);
+            let right = evaluate_lent(table, here.r, words, marks);
             Valued {
                 value: operated(here.p, left.value, right.value),
                 level: joined(left.level, right.level),
@@ -71,6 +71,14 @@ pub fn evaluate(table: &[u32], row: u32, words: &[u32; VARIABLES], marks: Marks)
         }
         _ => Valued { value: 0, level: 0 },
     }
+}
+
+// The value and level of the expression at a row, for callers that hold a judged table.
+pub fn evaluate(table: &[u32], row: u32, words: &[u32; VARIABLES], marks: Marks) -> Valued
+    requires { ⌜ Sound (rowsOf (now table)) × (row < length (rowsOf (now table))) × (length (now words) ≡ width) ⌝ }
+    ensures { λ r. ⌜ r ≡ valuedOf (now (words .entry)) marks (exprAt (rowsOf (now (table .entry))) row) ⌝ }
+{
+    evaluate_lent(&table, row, words, marks)
 }
 
 // The value and level of the expression at a row of any table: the table is judged first. A row that the table does not

@@ -1,15 +1,16 @@
 -- What the rounds of a loop give in the level check: the least set that contains the incoming one and what the body makes
 -- of it. A loop's body adds only variables that there are, so there are rounds enough.
-use Prim.Native.Nat.{ℕ, zero, suc, _+_, _≤_, _<_, _^_}
+use Prim.Native.Nat.{ℕ, zero, suc, _+_, _-_, _≤_, _<_, _^_}
 use native.Mathlib.Omega.{arith}
 use mathlib.Core.Bool.{Bool, true, false, cond, _||_}
 use mathlib.Core.Logic.{_≢_}
-use mathlib.Core.Path.{_≡_, refl, sym, subst}
+use mathlib.Core.List.{[]}
+use mathlib.Core.Path.{_≡_, refl, sym, ap, _∙_, subst}
 use lib.Dec.{T, eqb, ltb}
-use borrow.Author.Tests.{eqb-true, eqb-false, ltb-true, ltb-false}
+use borrow.Author.Tests.{eqb-true, eqb-false, eq-eqb, ne-eqb, ltb-true, ltb-false}
 use Rattle.rules.specs.Limits.{width}
 use Rattle.rules.specs.Marks.{has, union, _⊆_}
-use Rattle.rules.specs.LevelCheck.{Walked, rested, added, rounds}
+use Rattle.rules.specs.LevelCheck.{Walked, walked, rested, added, rounds}
 use Rattle.rules.proofs.MarkLaws.{has-union, has-above, marks-ext, subset-refl, subset-union-left, subset-union-right, union-least}
 
 -- ---- how many of the first n variables are not in a set
@@ -88,6 +89,26 @@ grown-free m g assigned sub within small other =
             (has-above width assigned i small (ltb-false i width h))
 
 -- ---- the rounds
+
+-- one round: with none left the set stands as it is; a walk that adds nothing ends them; any other goes on from what it added to
+module _ (body : ℕ → Walked) where
+  pub rounds-over : (m : ℕ) → rounds 0 body m ≡ walked m []
+  unfolding rounds
+  rounds-over m = refl
+
+  pub rounds-rest : (n m : ℕ) → n ≢ 0 → union m (body m .marks) ≡ m → rounds n body m ≡ walked m (body m .failing)
+  unfolding rounds added rested
+  rounds-rest zero m some e = absurd (some refl)
+  rounds-rest (suc n) m some e =
+      ap (λ (b : Bool). rested b (rounds n body) m (union m (body m .marks)) (body m .failing)) (eq-eqb (union m (body m .marks)) m e)
+
+  pub rounds-on : (n m : ℕ) → n ≢ 0 → union m (body m .marks) ≢ m → rounds n body m ≡ rounds (n - 1) body (union m (body m .marks))
+  unfolding rounds added rested
+  rounds-on zero m some e = absurd (some refl)
+  rounds-on (suc n) m some e =
+      let fewer : n ≡ suc n - 1 = omega arith in
+      ap (λ (b : Bool). rested b (rounds n body) m (union m (body m .marks)) (body m .failing)) (ne-eqb (union m (body m .marks)) m e)
+      ∙ ap (λ (k : ℕ). rounds k body (union m (body m .marks))) fewer
 
 -- what the rounds of a loop come to, from a set m
 pub record Rested (body : ℕ → Walked) (m : ℕ) (w : Walked) : Type 0 where

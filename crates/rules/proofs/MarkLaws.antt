@@ -336,6 +336,15 @@ provisional-mono a b sub h = by (provisional b) refl
     by false e =
         sym (settled-of-none a (λ i. false-of (has a i) (has b i) (sub i) (settled-has b i e))) ∙ h
 
+pub provisional-union : (a b : ℕ) → provisional (union a b) ≡ (provisional a || provisional b)
+provisional-union a b = by (provisional a) (provisional b) refl refl
+  where
+    by : (x y : Bool) → provisional a ≡ x → provisional b ≡ y → provisional (union a b) ≡ (x || y)
+    by true y ea eb = provisional-mono a (union a b) (subset-union-left a b) ea
+    by false true ea eb = provisional-mono b (union a b) (subset-union-right a b) eb
+    by false false ea eb =
+        ap provisional (ap₂ union (settled-none a ea) (settled-none b eb) ∙ union-self none) ∙ provisional-none
+
 -- ---- the bridge to the machine's bit operations
 
 tested-digit : (m : ℕ) → eqb (m % 2) 1 ≡ not (eqb (m % 2) 0)

@@ -59,6 +59,19 @@ pub expr-arms :
 unfolding exprNode
 expr-arms child row = (record { each = refl }, record { each = refl }, record { each = refl }, record { each = refl })
 
+-- what a statement row stands for, by the arms of a match on its kind
+pub stmt-arms :
+    (test : ℕ → Expr) (child : ℕ → Stmt) (i : ℕ) (row : Row)
+    → Arm kindAt (stmtNode test child i row) (assign (row .p) (test (row .q))) (1 ∷ [])
+    × Arm kindAt (stmtNode test child i row) (sequence (child (row .p)) (child (row .q))) (2 ∷ [])
+    × Arm kindAt (stmtNode test child i row) (if (test (row .p)) (child (row .q)) (child (row .r))) (3 ∷ [])
+    × Arm kindAt (stmtNode test child i row) (while (test (row .p)) (child (row .q))) (4 ∷ [])
+    × Arm kindAt (stmtNode test child i row) (output (row .p) (test (row .q)) i) (5 ∷ [])
+    × Arm kindAt (stmtNode test child i row) skip (0 ∷ 6 ∷ 7 ∷ 8 ∷ 9 ∷ [])
+unfolding stmtNode
+stmt-arms test child i row =
+    (record { each = refl }, record { each = refl }, record { each = refl }, record { each = refl }, record { each = refl }, record { each = refl })
+
 -- the words of a sound row, kind by kind
 module _ {rows : List Row} {i : ℕ} {row : Row} where
   pub assign-words : SoundRow rows i Kind.Assign row → (row .p < width) × (row .q < i)

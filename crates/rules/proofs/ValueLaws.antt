@@ -2,7 +2,7 @@
 use Prim.Native.Nat.{ℕ, _+_, _*_, _/_, _%_, _^_, _≤_, _<_}
 use native.Mathlib.Nat.{lt-of-le-of-lt, le-of-lt, mul-le-mul-left, mul-lt-mul-of-pos-right}
 use native.Mathlib.Omega.{arith}
-use mathlib.Core.Bool.{Bool, true, false, cond}
+use mathlib.Core.Bool.{Bool, true, false, cond, _||_}
 use mathlib.Core.List.{List, [], _∷_}
 use mathlib.Core.Path.{_≡_, refl, ap}
 use lib.ListN.{getD}
@@ -12,9 +12,10 @@ use Rattle.rules.specs.declared.Kind.{Kind}
 use Rattle.rules.specs.declared.Operator.{Operator}
 use Rattle.rules.specs.declared.Row.{Row}
 use Rattle.rules.specs.Limits.{wordBits}
-use Rattle.rules.specs.Marks.{none, has, only, union}
-use Rattle.rules.specs.Trees.{Expr, constant, variable, binary, Stmt, skip, operatorOf, stmtNode}
+use Rattle.rules.specs.Marks.{none, has, only, union, provisional}
+use Rattle.rules.specs.Trees.{Expr, constant, variable, binary, Stmt, skip, operatorOf, exprNode, stmtNode}
 use Rattle.rules.specs.Values.{operate, value, level, mayAssign}
+use Rattle.rules.proofs.MarkLaws.{has-only-same, has-provisional, provisional-none, provisional-union}
 use Rattle.rules.proofs.RowLaws.{Arm, kindAt, Other}
 
 -- ---- the operators by their numbers
@@ -114,6 +115,28 @@ module _ (marks : ℕ) where
   pub level-binary : (o : Operator) (a b : Expr) → level marks (binary o a b) ≡ union (level marks a) (level marks b)
   unfolding level
   level-binary o a b = refl
+
+-- ---- whether a row is provisional, by the arms of a match on its kind
+
+variable-provisional : (marks v : ℕ) (b : Bool) → has marks v ≡ b → provisional (cond b (only v) none) ≡ b
+variable-provisional marks v true h = has-provisional (only v) v (has-only-same v)
+variable-provisional marks v false h = provisional-none
+
+pub provisional-arms :
+    (marks : ℕ) (child : ℕ → Expr) (row : Row)
+    → Arm kindAt (λ (kind : Kind). provisional (level marks (exprNode child row kind))) (has marks (row .p)) (7 ∷ [])
+    × Arm
+    kindAt
+    (λ (kind : Kind). provisional (level marks (exprNode child row kind)))
+    (provisional (level marks (child (row .q))) || provisional (level marks (child (row .r))))
+    (8 ∷ [])
+    × Arm kindAt (λ (kind : Kind). provisional (level marks (exprNode child row kind))) false (0 ∷ 1 ∷ 2 ∷ 3 ∷ 4 ∷ 5 ∷ 6 ∷ 9 ∷ [])
+unfolding exprNode level provisional none
+provisional-arms marks child row = (
+  record { each = ap (λ (b : Bool). b ∷ []) (variable-provisional marks (row .p) (has marks (row .p)) refl) },
+  record { each = ap (λ (b : Bool). b ∷ []) (provisional-union (level marks (child (row .q))) (level marks (child (row .r)))) },
+  record { each = refl },
+)
 
 -- ---- what a row may assign, by the arms of a match on its kind
 

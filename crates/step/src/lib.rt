@@ -1,11 +1,10 @@
 // One step of a run under the monitor, on the arrays in which the run's state stands.
 use expression::assigned::may_assign;
-use expression::marks::joined;
-use expression::marks::with_mark;
-use expression::marks::without_mark;
-use expression::memory::store_lent;
 use expression::values::Valued;
 use expression::values::evaluate;
+use leaves::marks::joined;
+use leaves::marks::mark_as;
+use leaves::memory::store_lent;
 use rules::Kind;
 use rules::Marks;
 use rules::Row;
@@ -76,16 +75,6 @@ fn is_denied(channel: u32, level: Marks, height: usize) -> bool
         return false;
     }
     is_guarded(level, height)
-}
-
-// The marks with the variable marked or unmarked.
-fn mark_as(marks: Marks, variable: u32, bit: bool) -> Marks
-    ensures { λ r. ⌜ r ≡ put (variable % width) bit marks ⌝ }
-{
-    if bit {
-        return with_mark(marks, variable);
-    }
-    without_mark(marks, variable)
 }
 
 // Pushes the empty set if the test or the context is provisional, and answers the pile's height.

@@ -1,0 +1,122 @@
+-- What a call answers, from whether a buffer is too short and from what the proved functions answered.
+use Prim.Native.Nat.{ℕ, suc, _+_, _-_, _≤_, _<_}
+use mathlib.Core.Bool.{Bool, true, false}
+use mathlib.Core.List.{List, [], _∷_, _++_}
+use mathlib.Core.Path.{_≡_, refl, sym, ap, ap₂, _∙_}
+use native.Mathlib.Numerals.{add-one}
+use native.Mathlib.Omega.{arith}
+use lib.Dec.{ltb}
+use lib.ListN.{length, take, drop, getD, set, length-append, length-drop}
+use lib.Seq.{sets, sets-eq, take-append-seam, drop-append-add, drop-drop, take-all, drop-cons, set-at, length-take-le, append-snoc, take-suc}
+use borrow.Author.Tests.{lt-ltb, le-ltb}
+use Rattle.rules.specs.declared.Advice.{Advice}
+use Rattle.rules.specs.declared.Answer.{Answer}
+use Rattle.rules.specs.Limits.{width}
+use Rattle.rules.specs.Answers.{Said, Whole, Advised, judgement, advice, answer, traceAfter, saidOfRun, saidOfCheck, toldOf, telling}
+use Rattle.rules.proofs.AnswerLaws.{told-said, told-steps, told-records, told-memory, told-marks}
+use Rattle.levels.specs.Told.{advisedOf}
+use Rattle.embed.specs.declared.Numbers.{Numbers}
+use Rattle.embed.specs.Calls.{numbersOf, saidWords, runWords, laid, answered, answerTooShort, memoryTooShort, judgeLength, runLength, callBy, judgeCall, checkWords, checkLength, checkCall, ranCall, runCallBy, runCall}
+
+-- words laid over a buffer, and more stored after them
+pub laid-more : (words more buffer : List ℕ) → length words + length more ≤ length buffer
+    → sets (laid words buffer) (length words) more ≡ laid (words ++ more) buffer
+laid-more words more buffer h =
+    let all : length words + length more ≤ length (laid words buffer) = omega (arith, length-laid) in
+    sets-eq more (laid words buffer) (length words) all
+    ∙ ap₂ (λ (front back : List ℕ). front ++ more ++ back) (take-append-seam words (drop (length words) buffer))
+    (drop-append-add words (drop (length words) buffer) (length more) ∙ drop-drop (length more) (length words) buffer ∙ ap (λ (k : ℕ). drop k buffer) (sym (length-append words more)))
+  where
+    length-laid : length (laid words buffer) ≡ length words + (length buffer - length words)
+    length-laid = length-append words (drop (length words) buffer) ∙ ap (λ (k : ℕ). length words + k) (length-drop (length words) buffer)
+
+-- one word more is copied
+pub copied-more : (from to : List ℕ) (i : ℕ) → i < length from → i < length to
+    → set (take i from ++ drop i to) i (getD from i 0) ≡ take (i + 1) from ++ drop (i + 1) to
+copied-more from to i f t =
+    ap (λ (r : List ℕ). set (take i from ++ r) i (getD from i 0)) (drop-cons to i 0 t)
+    ∙ set-at (take i from) (getD to i 0) (drop (suc i) to) (getD from i 0) i (length-take-le i from (omega arith))
+    ∙ sym (append-snoc (take i from) (getD from i 0) (drop (suc i) to))
+    ∙ ap (λ (r : List ℕ). r ++ drop (suc i) to) (sym (take-suc from i 0 f))
+    ∙ ap (λ (k : ℕ). take k from ++ drop k to) (sym (add-one i))
+
+-- ---- the judge and the level check
+
+call-short : (words buffer : List ℕ) (needed : ℕ) → length buffer < needed
+    → callBy (ltb (length buffer) needed) words buffer ≡ record { status = answerTooShort; answer = buffer }
+call-short words buffer needed h = ap (λ (b : Bool). callBy b words buffer) (lt-ltb (length buffer) needed h)
+
+call-answered : (words buffer : List ℕ) (needed : ℕ) → needed ≤ length buffer
+    → callBy (ltb (length buffer) needed) words buffer ≡ record { status = answered; answer = laid words buffer }
+call-answered words buffer needed h = ap (λ (b : Bool). callBy b words buffer) (le-ltb (length buffer) needed h)
+
+module _ (table buffer : List ℕ) where
+  pub judge-short : length buffer < judgeLength → judgeCall table buffer ≡ record { status = answerTooShort; answer = buffer }
+  judge-short h = call-short (saidWords (numbersOf (judgement table))) buffer judgeLength h
+
+  pub judge-answered : (said : Said) → judgeLength ≤ length buffer → said ≡ judgement table
+      → judgeCall table buffer ≡ record { status = answered; answer = laid (saidWords (numbersOf said)) buffer }
+  judge-answered said h s =
+      call-answered (saidWords (numbersOf (judgement table))) buffer judgeLength h
+      ∙ ap (λ (x : Said). record { status = answered; answer = laid (saidWords (numbersOf x)) buffer }) (sym s)
+
+  pub check-short : (marks : ℕ) → length buffer < checkLength → checkCall table marks buffer ≡ record { status = answerTooShort; answer = buffer }
+  check-short marks h = call-short (checkWords (advice table marks)) buffer checkLength h
+
+  pub check-answered : (marks : ℕ) (a : Advice) → checkLength ≤ length buffer → advisedOf a ≡ advice table marks
+      → checkCall table marks buffer
+      ≡ record { status = answered; answer = laid (saidWords (numbersOf (saidOfCheck (a .checked))) ++ a .marks ∷ []) buffer }
+  check-answered marks a h told =
+      call-answered (checkWords (advice table marks)) buffer checkLength h
+      ∙ ap (λ (x : Advised). record { status = answered; answer = laid (checkWords x) buffer }) (sym told)
+
+-- ---- the run
+
+module _ (table memory : List ℕ) (marks budget : ℕ) (trace buffer : List ℕ) where
+  pub run-short-answer : length buffer < runLength
+      → runCall table memory marks budget trace buffer ≡ record { status = answerTooShort; memory = memory; trace = trace; answer = buffer }
+  run-short-answer h =
+      ap (λ (b : Bool). runCallBy b (ltb (length memory) width) table memory marks budget trace buffer) (lt-ltb (length buffer) runLength h)
+
+  pub run-short-memory : runLength ≤ length buffer → length memory < width
+      → runCall table memory marks budget trace buffer ≡ record { status = memoryTooShort; memory = memory; trace = trace; answer = buffer }
+  run-short-memory h m =
+      ap₂ (λ (a b : Bool). runCallBy a b table memory marks budget trace buffer) (le-ltb (length buffer) runLength h) (lt-ltb (length memory) width m)
+
+  -- a run that was given these first words of the memory has answered: its memory, its trace and its words
+  pub run-answered : (given : List ℕ) (a : Answer) (trace′ : List ℕ)
+      → runLength ≤ length buffer → width ≤ length memory → length (a .memory .words) ≡ width → given ≡ take width memory
+      → toldOf a ≡ telling (answer table given marks budget (length trace))
+      → trace′ ≡ traceAfter (answer table given marks budget (length trace) .records) trace
+      → runCall table memory marks budget trace buffer ≡ record {
+        status = answered;
+        memory = take width (a .memory .words) ++ drop width memory;
+        trace = trace′;
+        answer = laid (saidWords (numbersOf (saidOfRun (a .ended))) ++ a .steps ∷ a .records ∷ a .marks ∷ []) buffer;
+      }
+  run-answered given a trace′ h m l g told t =
+      let w = answer table given marks budget (length trace) in
+      ap₂ (λ (x y : Bool). runCallBy x y table memory marks budget trace buffer) (le-ltb (length buffer) runLength h) (le-ltb (length memory) width m)
+      ∙ ap (λ (k : List ℕ). ranCall (answer table k marks budget (length trace)) memory trace buffer) (sym g)
+      ∙ ranCall-told w told
+      ∙ ap (λ (k : List ℕ). record { status = answered; memory = take width (a .memory .words) ++ drop width memory; trace = k; answer = laid (saidWords (numbersOf (saidOfRun (a .ended))) ++ a .steps ∷ a .records ∷ a .marks ∷ []) buffer }) (sym t)
+    where
+      ranCall-told : (w : Whole) → toldOf a ≡ telling w
+          → ranCall w memory trace buffer ≡ record {
+            status = answered;
+            memory = take width (a .memory .words) ++ drop width memory;
+            trace = traceAfter (w .records) trace;
+            answer = laid (saidWords (numbersOf (saidOfRun (a .ended))) ++ a .steps ∷ a .records ∷ a .marks ∷ []) buffer;
+          }
+      ranCall-told w told =
+          let s = sym (told-said a w told) in
+          let n = sym (told-steps a w told) in
+          let r = sym (told-records a w told) in
+          let k = sym (told-marks a w told) in
+          let words = sym (told-memory a w told) ∙ sym (take-all width (a .memory .words) (omega arith)) in
+          λ i. record {
+            status = answered;
+            memory = words i ++ drop width memory;
+            trace = traceAfter (w .records) trace;
+            answer = laid (saidWords (numbersOf (s i)) ++ n i ∷ r i ∷ k i ∷ []) buffer;
+          }

@@ -1,0 +1,99 @@
+-- What a call from C or Rust answers, and what the buffers that it was lent hold afterwards.
+use Prim.Native.Nat.{ℕ}
+use mathlib.Core.Bool.{Bool, true, false}
+use mathlib.Core.List.{List, [], _∷_, _++_}
+use lib.Dec.{ltb}
+use lib.ListN.{length, take, drop}
+use Rattle.rules.specs.Limits.{width}
+use Rattle.rules.specs.Answers.{Said, accepted, refused, verdict, pass, fail, Whole, Advised, judgement, advice, answer, traceAfter}
+use Rattle.embed.specs.declared.Numbers.{Numbers}
+
+-- The first three words of every answer: the refusal's number or 0; the verdict, which is 1 for a check that fails; the place,
+-- or the refusal's row.
+abbrev pub numbersOf : Said → Numbers
+numbersOf accepted = record { refusal = 0; verdict = 0; row = 0 }
+numbersOf (refused number row) = record { refusal = number; verdict = 0; row = row }
+numbersOf (verdict number place) = record { refusal = 0; verdict = number; row = place }
+numbersOf pass = record { refusal = 0; verdict = 0; row = 0 }
+numbersOf (fail row) = record { refusal = 0; verdict = 1; row = row }
+
+abbrev pub saidWords : Numbers → List ℕ
+saidWords n = n .refusal ∷ n .verdict ∷ n .row ∷ []
+
+-- The words of a run's answer: what is said of it, steps, records and marks.
+abbrev pub runWords : Whole → List ℕ
+runWords w = saidWords (numbersOf (w .said)) ++ w .steps ∷ length (w .records) ∷ w .marks ∷ []
+
+-- The words of a check's answer: what is said of it, and marks.
+abbrev pub checkWords : Advised → List ℕ
+checkWords a = saidWords (numbersOf (a .said)) ++ a .marks ∷ []
+
+-- Words laid over the first words of a buffer; the others keep their old contents.
+abbrev pub laid : List ℕ → List ℕ → List ℕ
+laid words buffer = words ++ drop (length words) buffer
+
+-- What a call returns: that it has answered, or which buffer was too short.
+abbrev pub answered : ℕ
+answered = 0
+
+abbrev pub answerTooShort : ℕ
+answerTooShort = 1
+
+abbrev pub memoryTooShort : ℕ
+memoryTooShort = 2
+
+-- How many words an answer takes.
+abbrev pub judgeLength : ℕ
+judgeLength = 3
+
+abbrev pub checkLength : ℕ
+checkLength = 4
+
+abbrev pub runLength : ℕ
+runLength = 6
+
+-- ---- the judge and the level check
+
+-- what comes of a call that is lent nothing but the answer's buffer
+pub record Call : Type 0 where
+  pub status : ℕ
+  pub answer : List ℕ
+
+-- the Bool says that the answer's buffer is too short for its words
+abbrev pub callBy : Bool → List ℕ → List ℕ → Call
+callBy true words buffer = record { status = answerTooShort; answer = buffer }
+callBy false words buffer = record { status = answered; answer = laid words buffer }
+
+abbrev pub judgeCall : List ℕ → List ℕ → Call
+judgeCall table buffer = callBy (ltb (length buffer) judgeLength) (saidWords (numbersOf (judgement table))) buffer
+
+abbrev pub checkCall : List ℕ → ℕ → List ℕ → Call
+checkCall table marks buffer = callBy (ltb (length buffer) checkLength) (checkWords (advice table marks)) buffer
+
+-- ---- the run
+
+pub record RunCall : Type 0 where
+  pub status : ℕ
+  pub memory : List ℕ
+  pub trace : List ℕ
+  pub answer : List ℕ
+
+-- a run that gave this answer: its memory, its records and its words are laid over what was lent
+abbrev pub ranCall : Whole → List ℕ → List ℕ → List ℕ → RunCall
+ranCall whole memory trace buffer = record {
+  status = answered;
+  memory = whole .memory ++ drop width memory;
+  trace = traceAfter (whole .records) trace;
+  answer = laid (runWords whole) buffer;
+}
+
+-- the first Bool says that the answer's buffer is too short, the second that the memory is
+abbrev pub runCallBy : Bool → Bool → List ℕ → List ℕ → ℕ → ℕ → List ℕ → List ℕ → RunCall
+runCallBy true short table memory marks budget trace buffer = record { status = answerTooShort; memory = memory; trace = trace; answer = buffer }
+runCallBy false true table memory marks budget trace buffer = record { status = memoryTooShort; memory = memory; trace = trace; answer = buffer }
+runCallBy false false table memory marks budget trace buffer =
+    ranCall (answer table (take width memory) marks budget (length trace)) memory trace buffer
+
+abbrev pub runCall : List ℕ → List ℕ → ℕ → ℕ → List ℕ → List ℕ → RunCall
+runCall table memory marks budget trace buffer =
+    runCallBy (ltb (length buffer) runLength) (ltb (length memory) width) table memory marks budget trace buffer

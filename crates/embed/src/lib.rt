@@ -1,0 +1,196 @@
+// The functions for C and Rust: numbers and slices only. What they answer is laid over the first words of a buffer that the
+// caller lends; a buffer that is too short is refused with a number of its own, and then nothing has changed.
+use rules::Checked;
+use rules::Ended;
+use rules::Judged;
+use rules::Memory;
+use rules::VARIABLES;
+ghost use mathlib.Core.Path.{_≡_};
+ghost use mathlib.Core.List.{[], _∷_, _++_};
+ghost use Prim.Native.Nat.{_≤_};
+ghost use lib.ListN.{length, take, drop};
+ghost use Rattle.rules.specs.Limits.{width};
+ghost use Rattle.rules.specs.Answers.{saidOfJudge, saidOfRun, saidOfCheck};
+ghost use Rattle.embed.specs.Calls.{numbersOf, saidWords, laid, judgeCall, checkCall, runCall};
+
+// What a call returns: that it has answered, or which buffer was too short.
+const ANSWERED: u32 = 0;
+
+const ANSWER_TOO_SHORT: u32 = 1;
+
+const MEMORY_TOO_SHORT: u32 = 2;
+
+// How many words an answer takes.
+const JUDGE_WORDS: usize = 3;
+
+const CHECK_WORDS: usize = 4;
+
+const RUN_WORDS: usize = 6;
+
+// The first three words of every answer: the refusal's number or 0; the verdict; the place, or the refusal's row.
+pub struct Numbers {
+    pub refusal: u32,
+    pub verdict: u32,
+    pub row: u32,
+}
+
+// The numbers of a refusal.
+fn refused_numbers(number: u32, row: u32) -> Numbers
+    ensures { λ r. ⌜ r ≡ record { refusal = number; verdict = 0; row = row } ⌝ }
+{
+    Numbers {
+        refusal: number,
+        verdict: 0,
+        row,
+    }
+}
+
+// The numbers of a verdict and its place.
+fn verdict_numbers(verdict: u32, row: u32) -> Numbers
+    ensures { λ r. ⌜ r ≡ record { refusal = 0; verdict = verdict; row = row } ⌝ }
+{
+    Numbers {
+        refusal: 0,
+        verdict,
+        row,
+    }
+}
+
+// The numbers of the judge's answer.
+fn judge_numbers(judged: Judged) -> Numbers
+    ensures { λ r. ⌜ r ≡ numbersOf (saidOfJudge judged) ⌝ }
+{
+    match judged {
+        Judged::Accepted => verdict_numbers(0, 0),
+        Judged::Refused { number, row } => refused_numbers(number, row),
+    }
+}
+
+// The numbers of a run's end.
+fn run_numbers(ended: Ended) -> Numbers
+    ensures { λ r. ⌜ r ≡ numbersOf (saidOfRun ended) ⌝ }
+{
+    match ended {
+        Ended::Done => verdict_numbers(0, 0),
+        Ended::Stopped(row) => verdict_numbers(1, row),
+        Ended::Spent => verdict_numbers(2, 0),
+        Ended::NoRoom(row) => verdict_numbers(3, row),
+        Ended::Refused { number, row } => refused_numbers(number, row),
+    }
+}
+
+// The numbers of what the level check says: a check that fails has verdict 1.
+fn check_numbers(checked: Checked) -> Numbers
+    ensures { λ r. ⌜ r ≡ numbersOf (saidOfCheck checked) ⌝ }
+{
+    match checked {
+        Checked::Pass => verdict_numbers(0, 0),
+        Checked::Fail(row) => verdict_numbers(1, row),
+        Checked::Refused { number, row } => refused_numbers(number, row),
+    }
+}
+
+// Lays the numbers over the first words of the answer.
+fn put_numbers(answer: &mut [u32], numbers: Numbers)
+    requires { ⌜ 3 ≤ length (now answer) ⌝ }
+    ensures { λ _. ⌜ now (answer .exit) ≡ laid (saidWords numbers) (now (answer .entry)) ⌝ }
+{
+    answer[0] = numbers.refusal;
+    answer[1] = numbers.verdict;
+    answer[2] = numbers.row;
+}
+
+// Lays a check's numbers and marks over the first words of the answer.
+fn put_check(answer: &mut [u32], numbers: Numbers, marks: u32)
+    requires { ⌜ 4 ≤ length (now answer) ⌝ }
+    ensures { λ _. ⌜ now (answer .exit) ≡ laid (saidWords numbers ++ marks ∷ []) (now (answer .entry)) ⌝ }
+{
+    put_numbers(answer, numbers);
+    answer[3] = marks;
+}
+
+// Lays a run's numbers, steps, records and marks over the first words of the answer.
+fn put_run(answer: &mut [u32], numbers: Numbers, steps: u32, records: u32, marks: u32)
+    requires { ⌜ 6 ≤ length (now answer) ⌝ }
+    ensures { λ _. ⌜ now (answer .exit) ≡ laid (saidWords numbers ++ steps ∷ records ∷ marks ∷ []) (now (answer .entry)) ⌝ }
+{
+    put_numbers(answer, numbers);
+    answer[3] = steps;
+    answer[4] = records;
+    answer[5] = marks;
+}
+
+// Lays a memory's words over the first words of a slice.
+fn copy_words(from: &[u32], to: &mut [u32])
+    requires { ⌜ (width ≤ length (now from)) × (width ≤ length (now to)) ⌝ }
+    ensures { λ _. ⌜ now (to .exit) ≡ take width (now (from .entry)) ++ drop width (now (to .entry)) ⌝ }
+{
+    let mut i: usize = 0;
+    while i < VARIABLES {
+        to[i] = from[i];
+        i += 1;
+    }
+}
+
+// The judge. The answer's three words are the refusal's number or 0, 0, and the refusal's row.
+#[no_mangle]
+pub extern "C" fn buzorinde_judge(table: &[u32], answer: &mut [u32]) -> u32
+    ensures { λ r. ⌜ judgeCall (now (table .entry)) (now (answer .entry)) ≡ record { status = r; answer = now (answer .exit) } ⌝ }
+{
+    if answer.len() < JUDGE_WORDS {
+        return ANSWER_TOO_SHORT;
+    }
+    let judged = table::judge(table);
+    put_numbers(answer, judge_numbers(judged));
+    ANSWERED
+}
+
+// The level check. The answer's four words are the refusal's number or 0, 1 for a check that fails and else 0, the lowest
+// failing row or the refusal's row, and the final marks.
+#[no_mangle]
+pub extern "C" fn buzorinde_check(table: &[u32], marks: u32, answer: &mut [u32]) -> u32
+    ensures { λ r. ⌜ checkCall (now (table .entry)) marks (now (answer .entry)) ≡ record { status = r; answer = now (answer .exit) } ⌝ }
+{
+    if answer.len() < CHECK_WORDS {
+        return ANSWER_TOO_SHORT;
+    }
+    let advice = levels::check(table, marks);
+    let checked = advice.checked;
+    put_check(answer, check_numbers(checked), advice.marks);
+    ANSWERED
+}
+
+// The run under the monitor. Memory is lent: its first 32 words are those of the variables, before and after. The answer's
+// six words are the refusal's number or 0, the verdict, the place or the refusal's row, steps, records and marks.
+#[no_mangle]
+pub extern "C" fn buzorinde_run(
+    table: &[u32],
+    memory: &mut [u32],
+    marks: u32,
+    budget: u32,
+    trace: &mut [u32],
+    answer: &mut [u32],
+) -> u32
+    ensures { λ r. ⌜ runCall (now (table .entry)) (now (memory .entry)) marks budget (now (trace .entry)) (now (answer .entry)) ≡ record { status = r; memory = now (memory .exit); trace = now (trace .exit); answer = now (answer .exit) } ⌝ }
+{
+    if answer.len() < RUN_WORDS {
+        return ANSWER_TOO_SHORT;
+    }
+    if memory.len() < VARIABLES {
+        return MEMORY_TOO_SHORT;
+    }
+    let mut given = [0u32; VARIABLES];
+    copy_words(memory, &mut given);
+    let reached = monitor::run(table, Memory { words: given }, marks, budget, trace);
+    let words = reached.memory.words;
+    copy_words(&words, memory);
+    let ended = reached.ended;
+    put_run(
+        answer,
+        run_numbers(ended),
+        reached.steps,
+        reached.records,
+        reached.marks,
+    );
+    ANSWERED
+}

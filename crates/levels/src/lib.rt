@@ -1,0 +1,48 @@
+// The static level check: whether an output of a recipe may be denied, told before the recipe runs.
+mod provisional;
+mod walk;
+
+use crate::walk::walk;
+use rules::Advice;
+use rules::Checked;
+use rules::Judged;
+use rules::Marks;
+use table::judge;
+ghost use mathlib.Core.Path.{_≡_};
+ghost use Rattle.rules.specs.Answers.{advice};
+ghost use Rattle.rules.specs.declared.Checked.{Checked};
+ghost use Rattle.levels.specs.Found.{checkedAt};
+ghost use Rattle.levels.specs.Told.{advisedOf};
+
+// "four words: kind, p, q, r"
+const ROW_WORDS: usize = 4;
+
+// "pass, or fail with the lowest failing row", where that row and 1 is known, or 0 for none.
+fn checked_at(lowest: u32) -> Checked
+    ensures { λ r. ⌜ r ≡ checkedAt lowest ⌝ }
+{
+    if lowest == 0 {
+        return Checked::Pass;
+    }
+    Checked::Fail(lowest - 1)
+}
+
+// Checks the recipe of a table from a mark set, in a settled context: pass, or fail with the lowest failing row, and the
+// final marks. A bad table is refused, and the marks are then as given.
+pub fn check(table: &[u32], marks: Marks) -> Advice
+    ensures { λ r. ⌜ advisedOf r ≡ advice (now (table .entry)) marks ⌝ }
+{
+    let judged = judge(table);
+    if let Judged::Refused { number, row } = judged {
+        return Advice {
+            checked: Checked::Refused { number, row },
+            marks,
+        };
+    }
+    let last = (table.len() / ROW_WORDS - 1) as u32;
+    let found = walk(table, last, false, marks);
+    Advice {
+        checked: checked_at(found.lowest),
+        marks: found.marks,
+    }
+}

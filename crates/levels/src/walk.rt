@@ -1,0 +1,124 @@
+// The walk over a statement: what it makes of the marks, and which of its outputs fail.
+use crate::provisional::is_guarded;
+use leaves::marks::joined;
+use leaves::marks::mark_as;
+use rules::Kind;
+use rules::Marks;
+use rules::VARIABLES;
+use table::rows::read_row;
+ghost use mathlib.Core.Bool.{_&&_};
+ghost use mathlib.Core.Path.{_≡_};
+ghost use Prim.Native.Nat.{ℕ, _+_, _<_};
+ghost use lib.Dec.{eqb};
+ghost use lib.ListN.{length};
+ghost use Rattle.rules.specs.Limits.{width};
+ghost use Rattle.rules.specs.Rows.{rowsOf};
+ghost use Rattle.rules.specs.Trees.{exprAt, stmtAt};
+ghost use Rattle.rules.specs.LevelRules.{under};
+ghost use Rattle.rules.specs.LevelCheck.{walk, rounds};
+ghost use Rattle.rules.specs.Sound.{Sound};
+ghost use Rattle.levels.specs.Found.{lowerOf, failedAt, foundOf};
+
+// What a walk finds: the marks after the statement, and its lowest failing row and 1, or 0 where no output fails.
+pub struct Found {
+    pub marks: Marks,
+    pub lowest: u32,
+}
+
+// The lower of two failing rows, each given with 1 added, or as 0 where there is none.
+fn lower(a: u32, b: u32) -> u32
+    ensures { λ r. ⌜ r ≡ lowerOf a b ⌝ }
+{
+    if a == 0 {
+        return b;
+    }
+    if b == 0 {
+        return a;
+    }
+    if b < a {
+        return b;
+    }
+    a
+}
+
+// Where an output fails: "if it is on channel 0 and its expression or context is provisional".
+fn failing_at(table: &[u32], row: u32, channel: u32, shown: u32, context: bool, marks: Marks) -> u32
+    requires { ⌜ Sound (rowsOf (now table)) × (row < length (rowsOf (now table))) × (shown < length (rowsOf (now table))) ⌝ }
+    ensures { λ r. ⌜ r ≡ failedAt (eqb channel 0 && under (exprAt (rowsOf (now (table .entry))) shown) context marks) row ⌝ }
+{
+    if channel != 0 {
+        return 0;
+    }
+    if is_guarded(table, shown, context, marks) {
+        return row + 1;
+    }
+    0
+}
+
+// Walks a loop's body from the incoming set, adds what comes back, and walks again until nothing is added. The walk that adds
+// nothing started from the final set, so what failed in it is what fails. Each walk but the last adds a variable.
+fn walk_loop(table: &[u32], test: u32, body: u32, context: bool, marks: Marks) -> Found
+    requires { ⌜ Sound (rowsOf (now table)) × (test < length (rowsOf (now table))) × (body < length (rowsOf (now table))) ⌝ }
+    ensures { λ r. ⌜ r ≡ foundOf (rounds (width + 1) (λ (loop : ℕ). walk (stmtAt (rowsOf (now (table .entry))) body) (under (exprAt (rowsOf (now (table .entry))) test) context loop) loop) marks) ⌝ }
+{
+    let mut set = marks;
+    let mut left = VARIABLES + 1;
+    while left != 0 {
+        let inside = is_guarded(table, test, context, set);
+        let turn = walk(table, body, inside, set);
+        let grown = joined(set, turn.marks);
+        if grown == set {
+            return Found {
+                marks: set,
+                lowest: turn.lowest,
+            };
+        }
+        set = grown;
+        left -= 1;
+    }
+    Found {
+        marks: set,
+        lowest: 0,
+    }
+}
+
+// Walks the statement at a row, in a context, from a mark set.
+pub fn walk(table: &[u32], row: u32, context: bool, marks: Marks) -> Found
+    requires { ⌜ Sound (rowsOf (now table)) × (row < length (rowsOf (now table))) ⌝ }
+    ensures { λ r. ⌜ r ≡ foundOf (walk (stmtAt (rowsOf (now (table .entry))) row) context marks) ⌝ }
+{
+    let here = read_row(table, row);
+    let kind = here.kind;
+    match kind {
+        Kind::Assign => {
+            let bit = is_guarded(table, here.q, context, marks);
+            Found {
+                marks: mark_as(marks, here.p, bit),
+                lowest: 0,
+            }
+        }
+        Kind::Sequence => {
+            let first = walk(table, here.p, context, marks);
+            let second = walk(table, here.q, context, first.marks);
+            Found {
+                marks: second.marks,
+                lowest: lower(first.lowest, second.lowest),
+            }
+        }
+        Kind::If => {
+            let inside = is_guarded(table, here.p, context, marks);
+            let then = walk(table, here.q, inside, marks);
+            let other = walk(table, here.r, inside, marks);
+            Found {
+                marks: then.marks | other.marks,
+                lowest: lower(then.lowest, other.lowest),
+            }
+        }
+        Kind::While => walk_loop(table, here.p, here.q, context, marks),
+        Kind::Output => Found {
+            marks,
+            lowest: failing_at(table, row, here.p, here.q, context, marks),
+        },
+        _ => Found { marks, lowest: 0 },
+    }
+}
