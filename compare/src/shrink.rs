@@ -1,8 +1,10 @@
 //! The smallest case that still has a difference, found by trying smaller ones.
 
-use independent::table::{CONSTANT, ROW_WORDS, SKIP};
+use independent::marks::VARIABLES;
+use independent::table::{Word, CONSTANT, ROW_WORDS, SKIP};
 
 use crate::case::Case;
+use crate::tables::Names;
 use crate::words::{children, is_child, is_expression, places, without};
 
 /// A table is changed only under budgets up to this: a changed one may be endless.
@@ -44,7 +46,27 @@ fn smaller(case: &Case) -> impl Iterator<Item = Case> + '_ {
         table,
         ..case.clone()
     });
-    smaller_budgets(case).chain(tables).chain(lent)
+    let cases = smaller_budgets(case).chain(tables).chain(lent);
+    cases.chain(lower_names(case))
+}
+
+/// Each variable of the table under the name of a lower one, in marks and memories too.
+fn lower_names(case: &Case) -> impl Iterator<Item = Case> + '_ {
+    let used = places(&case.table, |role| role == Word::Variable);
+    let used = used.into_iter().map(|place| case.table[place] as usize);
+    let used = used.filter(|variable| *variable < VARIABLES);
+    used.flat_map(move |variable| {
+        (0..variable).map(move |lower| {
+            let names = Names::exchanged(lower, variable);
+            let mut other = case.clone();
+            names.of_table(&mut other.table);
+            other.marks = names.of_marks(case.marks);
+            for given in other.givens_mut() {
+                names.of_memory(&mut given.memory);
+            }
+            other
+        })
+    })
 }
 
 /// Numbers to try in place of one.
