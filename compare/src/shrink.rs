@@ -1,13 +1,15 @@
 //! The smallest case that still has a difference, found by trying smaller ones.
 
 use independent::marks::VARIABLES;
+use independent::run::RECORD_WORDS;
 use independent::table::{Word, CONSTANT, ROW_WORDS, SKIP};
 
-use crate::case::Case;
+use crate::calls::{by_library, ANSWERED};
+use crate::case::{Case, Question};
 use crate::tables::Names;
 use crate::words::{children, is_child, is_expression, places, without};
 
-/// A table is changed only under budgets up to this: a changed one may be endless.
+/// Nothing but the budget is changed above this: a changed run may be endless.
 const MOST_BUDGET: u32 = 1_000_000;
 
 /// Takes smaller cases that still differ until there is none.
@@ -36,18 +38,38 @@ fn size(case: &Case) -> (usize, u64) {
 
 /// Cases to try, the boldest first.
 fn smaller(case: &Case) -> impl Iterator<Item = Case> + '_ {
-    let bounded = case
-        .givens()
-        .iter()
-        .all(|given| given.budget <= MOST_BUDGET);
-    let lent = smaller_givens(case).chain(smaller_numbers(case));
-    let tables = smaller_tables(&case.table).filter(move |_| bounded);
-    let tables = tables.map(|table| Case {
+    let budgets = case.givens().into_iter().map(|given| given.budget);
+    let bounded = budgets.max().unwrap_or(0) <= MOST_BUDGET;
+    let tables = smaller_tables(&case.table).map(|table| Case {
         table,
         ..case.clone()
     });
-    let cases = smaller_budgets(case).chain(tables).chain(lent);
-    cases.chain(lower_names(case))
+    let lent = smaller_givens(case).chain(smaller_numbers(case));
+    let others = tables.chain(lent).chain(lower_names(case));
+    let others = others.filter(move |_| bounded).flat_map(fitted);
+    smaller_budgets(case).chain(others)
+}
+
+/// The case, and the same with the budget, or the words of the trace, that its run takes: a
+/// difference at a run's very end is lost where the run is shorter and these are not.
+fn fitted(case: Case) -> Vec<Case> {
+    let Question::Run(given) = &case.question else {
+        return vec![case];
+    };
+    let left = by_library(&case);
+    if left.status != ANSWERED || left.refusal() != 0 {
+        return vec![case];
+    }
+    let end = left.end();
+    let odd = given.trace_words % RECORD_WORDS;
+    let (mut budget, mut trace) = (case.clone(), case.clone());
+    for given in budget.givens_mut() {
+        given.budget = end.steps;
+    }
+    for given in trace.givens_mut() {
+        given.trace_words = given.trace_words.min(end.filled + odd);
+    }
+    vec![case, budget, trace]
 }
 
 /// Each variable of the table under the name of a lower one, in marks and memories too.
