@@ -2,6 +2,7 @@
 //! sides take turns, so that a slow moment of the machine meets them all. Ratios are of the least times.
 
 mod judge;
+mod levels;
 mod operate;
 mod recipe;
 mod unwatched;
@@ -87,24 +88,59 @@ fn main() {
     }
 
     println!();
-    println!("{:<42} {:>9} {:>9} | {:>8} {:>8} {:>8} | {:>8} {:>8}", "judge", "ratio to", "", "least", "us", "", "median", "us");
-    println!("{:<42} {:>9} {:>9} | {:>8} {:>8} {:>8} | {:>8} {:>8}", "", "by hand", "", "proved", "by hand", "", "proved", "by hand");
+    println!("{:<42} {:>9} {:>9} | {:>8} {:>8} {:>8} | {:>8} {:>8}", "", "ratio to", "", "least", "us", "", "median", "us");
+    println!("{:<42} {:>9} {:>9} | {:>8} {:>8} {:>8} | {:>8} {:>8}", "judge and level check", "by hand", "", "proved", "by hand", "", "proved", "by hand");
     for (name, table) in workloads::judged().iter().filter(|(name, _)| wanted(name)) {
         assert_eq!(buzorinde::judge(table), judge::judge(table), "{name}");
-        let [proved, by_hand] = measure(repetitions, 1000, |i| {
+        let times = measure(repetitions, 1000, |i| {
             let table = black_box(table.as_slice());
             black_box(if i == 0 { buzorinde::judge(table) } else { judge::judge(table) });
         });
-        println!(
-            "{:<42} {:>9.2} {:>9} | {:>8.2} {:>8.2} {:>8} | {:>8.2} {:>8.2}",
-            name,
-            proved.least / by_hand.least,
-            "",
-            proved.least / 1000.0,
-            by_hand.least / 1000.0,
-            "",
-            proved.median / 1000.0,
-            by_hand.median / 1000.0,
-        );
+        print_pair(name, times);
     }
+    for (name, table, times) in workloads::checked().iter().filter(|(name, ..)| wanted(name)) {
+        assert_eq!(buzorinde::check(table, 1), levels::check(table, 1), "{name}");
+        let times = measure(repetitions, *times, |i| {
+            let table = black_box(table.as_slice());
+            black_box(if i == 0 { buzorinde::check(table, 1) } else { levels::check(table, 1) });
+        });
+        print_pair(name, times);
+    }
+    if words.len() < 2 {
+        print_growth(repetitions);
+    }
+}
+
+/// How the proved run grows with its steps, and the proved judge with its rows.
+fn print_growth(repetitions: usize) {
+    println!();
+    println!("{:<42} {:>12} {:>12}", "how it grows", "least, ns", "ns for each");
+    for work in workloads::longer_runs() {
+        let [proved] = measure(repetitions, work.times, |_| {
+            black_box(buzorinde::run(black_box(&work.table), &mut [0; VARIABLES], work.marks, work.budget, &mut []));
+        });
+        println!("{:<42} {:>12.0} {:>12.2}", format!("{}, {} steps", work.name, work.budget), proved.least, proved.least / f64::from(work.budget));
+    }
+    for table in workloads::longer_tables() {
+        let rows = table.len() / 4;
+        let [proved] = measure(repetitions, 1000, |_| {
+            black_box(buzorinde::judge(black_box(&table)));
+        });
+        println!("{:<42} {:>12.0} {:>12.2}", format!("judge, {rows} rows"), proved.least, proved.least / rows as f64);
+    }
+}
+
+/// A line of microseconds a call.
+fn print_pair(name: &str, [proved, by_hand]: [Times; 2]) {
+    println!(
+        "{:<42} {:>9.2} {:>9} | {:>8.2} {:>8.2} {:>8} | {:>8.2} {:>8.2}",
+        name,
+        proved.least / by_hand.least,
+        "",
+        proved.least / 1000.0,
+        by_hand.least / 1000.0,
+        "",
+        proved.median / 1000.0,
+        by_hand.median / 1000.0,
+    );
 }

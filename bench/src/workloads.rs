@@ -18,6 +18,9 @@ const PROVISIONAL: u32 = 1;
 
 const STEPS: u32 = 400_000;
 
+/// As many assignments as 512 rows hold.
+const LONGEST: u32 = 171;
+
 fn long(name: &'static str, table: Vec<u32>, marks: u32) -> Workload {
     Workload { name, table, marks, budget: STEPS, trace_words: 0, times: 1 }
 }
@@ -114,10 +117,10 @@ fn outputs() -> Vec<u32> {
     r.table()
 }
 
-/// 171 assignments one after the other: 512 rows, which are judged and run once.
-fn sequence() -> Vec<u32> {
+/// Assignments one after the other, three rows each but for the first.
+fn sequence(count: u32) -> Vec<u32> {
     let mut r = Recipe::default();
-    let assignments: Vec<u32> = (0..171)
+    let assignments: Vec<u32> = (0..count)
         .map(|i| {
             let value = r.constant(i);
             r.assign(i % 32, value)
@@ -166,12 +169,63 @@ pub fn runs() -> Vec<Workload> {
         long("if in a provisional loop", branching(), 1),
         long("provisional if, 100 assignments untaken", untaken(), provisional),
         Workload { name: "8,192 outputs", table: outputs(), marks: 0, budget: STEPS, trace_words: 16384, times: 10 },
-        Workload { name: "512-row sequence, once", table: sequence(), marks: 0, budget: STEPS, trace_words: 0, times: 1000 },
+        Workload { name: "512-row sequence, once", table: sequence(LONGEST), marks: 0, budget: STEPS, trace_words: 0, times: 1000 },
         Workload { name: "5 rows, two outputs, once", table: short(), marks: 2, budget: 10, trace_words: 4, times: 20000 },
     ]
 }
 
-/// The tables of 512 rows that are judged.
+/// Three loops in each other. Each hands v0's mark on by one of its own variables in a round, and a body unmarks the variables
+/// of the loop inside it first, so that this is solved again in every round. The innermost body is filled up to 512 rows.
+fn rounds() -> Vec<u32> {
+    let mut r = Recipe::default();
+    let mut inside = Vec::new();
+    for own in [21..32, 11..21, 1..11] {
+        let test = r.constant(1);
+        let mut body: Vec<u32> = own
+            .clone()
+            .rev()
+            .map(|i| {
+                let from = r.variable(if i == own.start { 0 } else { i - 1 });
+                r.assign(i, from)
+            })
+            .collect();
+        if inside.is_empty() {
+            body.extend((0..145).map(|_| r.skip()));
+        } else {
+            body.extend((own.end..32).map(|i| {
+                let zero = r.constant(0);
+                r.assign(i, zero)
+            }));
+        }
+        body.append(&mut inside);
+        let body = r.all(&body);
+        inside = vec![r.repeat(test, body)];
+    }
+    r.table()
+}
+
+/// The settled counting loop with budgets that grow.
+pub fn longer_runs() -> Vec<Workload> {
+    [100, 10_000, 1_000_000]
+        .map(|budget| Workload { name: "settled counting loop", table: counting(), marks: 0, budget, trace_words: 0, times: 1_000_000 / budget })
+        .into()
+}
+
+/// Tables with rows that grow.
+pub fn longer_tables() -> Vec<Vec<u32>> {
+    [3, 11, 43, LONGEST].map(sequence).into()
+}
+
+/// The tables that are judged.
 pub fn judged() -> Vec<(&'static str, Vec<u32>)> {
-    vec![("judge 512 rows of assignments", sequence()), ("judge 512 rows of expressions", expressions())]
+    vec![("judge 512 rows of assignments", sequence(LONGEST)), ("judge 512 rows of expressions", expressions())]
+}
+
+/// The tables whose levels are checked, from v0 marked, and how often in one measurement.
+pub fn checked() -> Vec<(&'static str, Vec<u32>, u32)> {
+    vec![
+        ("level check, 512 rows of assignments", sequence(LONGEST), 1000),
+        ("level check, 512 rows of expressions", expressions(), 1000),
+        ("level check, three loops of many rounds", rounds(), 1),
+    ]
 }

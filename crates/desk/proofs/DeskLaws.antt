@@ -11,13 +11,13 @@ use Rattle.rules.specs.Running.{Record}
 use Rattle.rules.specs.Answers.{Whole, answer, toldOf, telling, traceWordsOf, traceAfter}
 use Rattle.rules.proofs.AnswerLaws.{trace-words-none, trace-words-cons, trace-after-law, told-said, told-steps, told-records, told-memory, told-marks}
 use Rattle.job.specs.Limits.{tableWords, mostRoom}
-use Rattle.job.specs.declared.read.Read.{Read}
-use Rattle.job.specs.declared.read.Reading.{Reading}
+use Rattle.job.specs.declared.Read.{Read}
+use Rattle.job.specs.declared.Reading.{Reading}
 use Rattle.job.specs.Jobs.{Told, told, untold, readJob}
 use Rattle.job.specs.Read.{filled, reading}
-use Rattle.job.specs.Reports.{refusalText, report}
-use Rattle.job.specs.Written.{mostRun, placedIn, recordsOf, wholeOf, reportWritten}
-use Rattle.job.proofs.ReportLaws.{report-placed}
+use Rattle.report.specs.Reports.{refusalText, report}
+use Rattle.report.specs.Written.{placedIn, recordsOf, wholeOf, reportWritten}
+use Rattle.report.proofs.ReportLaws.{report-placed}
 use Rattle.job.proofs.ToldLaws.{told-fits}
 use Rattle.desk.specs.Desk.{mostReport, jobAnswer, toldReport, jobReport}
 

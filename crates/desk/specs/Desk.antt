@@ -7,8 +7,8 @@ use Rattle.rules.specs.Answers.{Whole, answer}
 use Rattle.job.specs.Limits.{mostRoom}
 use Rattle.job.specs.Jobs.{Job, Told, told, untold, readJob}
 use Rattle.job.specs.Read.{filled}
-use Rattle.job.specs.Reports.{refusalText, report}
-use Rattle.job.specs.Written.{mostRun}
+use Rattle.report.specs.Reports.{refusalText, report}
+use Rattle.report.specs.Written.{mostRun}
 
 -- the bytes of the longest report: that of a run whose records fill the most room
 abbrev pub mostReport : ℕ

@@ -1,24 +1,23 @@
 // A job's bytes to its report's bytes: the job is read, run under the monitor, and its report written.
-use job::read::Read;
-use job::write::Wrote;
+use job::Read;
+use report::Wrote;
 use rules::Marks;
 use rules::Memory;
+use rules::ROW_WORDS;
 ghost use mathlib.Core.Path.{_≡_};
 ghost use Prim.Native.Nat.{_*_, _≤_};
 ghost use lib.ListN.{length};
 ghost use Rattle.rules.specs.Limits.{recordWords, mostTraceWords};
 ghost use Rattle.rules.specs.Answers.{answer};
 ghost use Rattle.job.specs.Limits.{mostRoom};
-ghost use Rattle.job.specs.Reports.{report};
-ghost use Rattle.job.specs.Written.{placedIn};
+ghost use Rattle.report.specs.Reports.{report};
+ghost use Rattle.report.specs.Written.{placedIn};
 ghost use Rattle.desk.specs.Desk.{mostReport, jobReport};
 
 // The most bytes of a job, "32,768 bytes"; and of a report: that of a run with 8,192 records.
 pub const JOB_BYTES: usize = 32768;
 
 pub const REPORT_BYTES: usize = 213456;
-
-const ROW_WORDS: usize = 4;
 
 const RECORD_WORDS: usize = 2;
 
@@ -41,7 +40,7 @@ fn report_traced(
         (now (out .entry)) ⌝ }
 {
     let answer = monitor::run(table, memory, marks, budget, trace);
-    job::write::write_report(answer, trace, out)
+    report::write_report(answer, trace, out)
 }
 
 // Runs a table with room for so many records, and writes the report.
@@ -75,10 +74,10 @@ pub fn answer_job(text: &[u8], out: &mut [u8]) -> Wrote
     if out.len() < REPORT_BYTES {
         return Wrote::TooShort;
     }
-    let reading = job::read::read_job(text);
+    let reading = job::read_job(text);
     let read = reading.read;
     match read {
-        Read::Refused { number, line } => job::write::write_refusal(number, line, out),
+        Read::Refused { number, line } => report::write_refusal(number, line, out),
         Read::Job {
             budget,
             room,

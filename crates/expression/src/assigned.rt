@@ -1,12 +1,12 @@
 // What a statement may assign: "every variable that stands on the left of an assignment anywhere in the statement".
 use leaves::marks::joined;
 use leaves::marks::only_mark;
+use rows::has_row;
+use rows::read_row;
 use rules::Judged;
 use rules::Kind;
 use rules::Marks;
 use table::judge;
-use table::rows::has_row;
-use table::rows::read_row;
 ghost use mathlib.Core.Path.{_≡_};
 ghost use Prim.Native.Nat.{_<_};
 ghost use lib.ListN.{length};

@@ -5,9 +5,9 @@ use mathlib.Core.List.{List, [], _∷_, _++_}
 use mathlib.Core.Path.{_≡_, refl, sym, ap, ap₂, _∙_}
 use lib.ListN.{length, take, drop, set, length-append}
 use lib.Seq.{sets, sets-eq, length-sets, length-take-le, take-at, drop-set-lt}
-use Rattle.job.specs.declared.read.Lines.{Lines as Answer}
+use Rattle.job.specs.declared.Lines.{Lines as Answer}
 use Rattle.job.specs.Read.{LinesRead}
-use Rattle.job.specs.Lines.{Line, line, faulty, lines, broken, onLine, linesOf}
+use Rattle.lines.specs.Lines.{Line, line, faulty, lines, broken, onLine, linesOf}
 
 -- ---- lines, from line i of count on; before are the numbers of those before it
 

@@ -1,43 +1,22 @@
 -- Laws of a job that is read line by line: what each faulty line refuses, and what a whole job leaves.
 use Prim.Native.Nat.{ℕ, zero, suc, _+_, _-_, _*_, _/_, _≤_, _<_}
 use native.Mathlib.Omega.{arith}
-use mathlib.Core.Bool.{Bool, true, false}
+use mathlib.Core.Bool.{Bool}
 use mathlib.Core.List.{List, [], _∷_, _++_}
-use mathlib.Core.Path.{_≡_, refl, sym, ap, ap₂, _∙_}
-use lib.Dec.{leb}
+use mathlib.Core.Path.{_≡_, sym, ap, ap₂, _∙_}
 use lib.ListN.{length, take, drop, replicate, take-append-drop, drop-of-length-le}
 use lib.Seq.{length-take-le}
-use borrow.Author.Tests.{leb-true, lt-ltb, le-ltb}
+use borrow.Author.Tests.{lt-ltb, le-ltb}
 use Rattle.rules.specs.declared.Memory.{Memory}
 use Rattle.rules.specs.Limits.{width, rowWords, mostRows, mostJobBytes}
-use Rattle.job.specs.declared.read.Read.{Read}
-use Rattle.job.specs.declared.read.Reading.{Reading}
-use Rattle.job.specs.Limits.{tableWords, lacksForm, tooLong, firstInput}
-use Rattle.job.specs.Lines.{After, absent, after, afterKey, lineEnd, rowsKey, Fields, noFields, fields, fieldsOf, Line, line, faulty, inRange, closed, ended, lineOf, Lines, lines, broken, linesOf}
+use Rattle.job.specs.declared.Read.{Read}
+use Rattle.job.specs.declared.Reading.{Reading}
+use Rattle.lines.specs.Limits.{lacksForm}
+use Rattle.job.specs.Limits.{tableWords, tooLong, firstInput}
+use Rattle.lines.specs.Lines.{rowsKey, Line, line, faulty, lineOf, Lines, lines, broken, linesOf}
 use Rattle.job.specs.Jobs.{Job, Told, told, untold, one, many, finish, inLine, rowLine, readTable, readInputs, readBudget, sized, readJob}
 use Rattle.job.specs.Read.{filled, reading}
-use Rattle.job.proofs.NumberLaws.{drop-at, both-true}
-
--- ---- the range of what was read
-
-pub closed-range : (a : After) (b : Bool) (values vs rest : List ℕ) → line vs rest ≡ closed a b values → (b ≡ true) × (vs ≡ values)
-unfolding closed
-closed-range absent b values vs rest e = let z : _≡_ {A = ℕ} 0 1 = cc in absurd (omega arith)
-closed-range (after text) false values vs rest e = let z : _≡_ {A = ℕ} 0 1 = cc in absurd (omega arith)
-closed-range (after text) true values vs rest e = (refl, cc)
-
-pub ended-range : (most : ℕ) (f : Fields) (vs rest : List ℕ) → line vs rest ≡ ended most f → inRange most vs ≡ true
-unfolding ended
-ended-range most noFields vs rest e = let z : _≡_ {A = ℕ} 0 1 = cc in absurd (omega arith)
-ended-range most (fields values text) vs rest e =
-    let r = closed-range (afterKey lineEnd text) (inRange most values) values vs rest e in
-    ap (inRange most) (r .1) ∙ r .0
-
--- a line of one number: the number is in range
-pub line-within : (keys : List (List ℕ)) (most value : ℕ) (text rest : List ℕ) → line (value ∷ []) rest ≡ lineOf keys most text → value ≤ most
-unfolding lineOf inRange
-line-within keys most value text rest e =
-    leb-true value most (both-true (leb value most) true (ended-range most (fieldsOf keys text) (value ∷ []) rest e) .0)
+use Rattle.lines.proofs.NumberLaws.{drop-at}
 
 -- ---- one line of a number, and what follows
 

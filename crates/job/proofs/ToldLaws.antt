@@ -8,12 +8,13 @@ use lib.Dec.{leb, ltb}
 use lib.ListN.{length, getD, length-append}
 use borrow.Author.Tests.{leb-true}
 use Rattle.rules.specs.Limits.{rowWords, mostRows, mostJobBytes}
-use Rattle.job.specs.Limits.{mostWord, mostRoom, tableWords}
-use Rattle.job.specs.Numbers.{Number, noNumber, number}
-use Rattle.job.specs.Lines.{lineEnd, afterKey, rowKeys, Fields, noFields, fields, field, put, onward, fieldsOf, Line, line, faulty, inRange, ended, lineOf, Lines, lines, broken, onLine, linesOf}
-use Rattle.job.specs.Jobs.{Job, Told, told, untold, one, many, finish, rowLine, readTable, readInputs, readCount, readLevels, readRoom, readBudget, sized, readJob}
-use Rattle.job.proofs.NumberLaws.{both-true}
-use Rattle.job.proofs.JobLaws.{closed-range, ended-range}
+use Rattle.lines.specs.Limits.{mostWord}
+use Rattle.job.specs.Limits.{mostRoom, tableWords}
+use Rattle.lines.specs.Numbers.{Number, noNumber, number}
+use Rattle.lines.specs.Lines.{lineEnd, afterKey, rowKeys, Fields, noFields, fields, field, put, onward, fieldsOf, Line, line, faulty, inRange, ended, lineOf, Lines, lines, broken, onLine, linesOf}
+use Rattle.job.specs.Jobs.{Job, Told, told, one, many, finish, rowLine, readTable, readInputs, readCount, readLevels, readRoom, readBudget, sized, readJob}
+use Rattle.lines.proofs.NumberLaws.{both-true}
+use Rattle.lines.proofs.LineLaws.{closed-range, ended-range}
 
 -- ---- how a line must have been where a job was read
 

@@ -1,80 +1,10 @@
--- Document 01's whole case, and a case for each way in which a job is refused.
+-- A case for each way in which a job is refused.
 use Prim.Native.Nat.{ℕ, _+_}
 use mathlib.Core.List.{List, [], _∷_, map}
 use mathlib.Core.Path.{_≡_}
 use lib.ListN.{replicate}
-use Rattle.rules.specs.Answers.{answer}
 use Rattle.rules.specs.Limits.{mostJobBytes}
-use Rattle.rules.specs.Cases.{memoryOf}
-use Rattle.job.specs.Jobs.{Job, Told, told, untold, readJob}
-use Rattle.job.specs.Reports.{report}
-
--- "Whole case. Input lines: .."
-abbrev wholeText : List ℕ
-wholeText =
-    -- budget=10
-    98 ∷ 117 ∷ 100 ∷ 103 ∷ 101 ∷ 116 ∷ 61 ∷ 49 ∷ 48 ∷ 10 ∷
-    -- room=2
-    114 ∷ 111 ∷ 111 ∷ 109 ∷ 61 ∷ 50 ∷ 10 ∷
-    -- levels=2
-    108 ∷ 101 ∷ 118 ∷ 101 ∷ 108 ∷ 115 ∷ 61 ∷ 50 ∷ 10 ∷
-    -- inputs=2
-    105 ∷ 110 ∷ 112 ∷ 117 ∷ 116 ∷ 115 ∷ 61 ∷ 50 ∷ 10 ∷
-    -- in=7
-    105 ∷ 110 ∷ 61 ∷ 55 ∷ 10 ∷
-    -- in=9
-    105 ∷ 110 ∷ 61 ∷ 57 ∷ 10 ∷
-    -- rows=5
-    114 ∷ 111 ∷ 119 ∷ 115 ∷ 61 ∷ 53 ∷ 10 ∷
-    -- row=9,0,0,0
-    114 ∷ 111 ∷ 119 ∷ 61 ∷ 57 ∷ 44 ∷ 48 ∷ 44 ∷ 48 ∷ 44 ∷ 48 ∷ 10 ∷
-    -- row=5,0,0,0
-    114 ∷ 111 ∷ 119 ∷ 61 ∷ 53 ∷ 44 ∷ 48 ∷ 44 ∷ 48 ∷ 44 ∷ 48 ∷ 10 ∷
-    -- row=9,1,0,0
-    114 ∷ 111 ∷ 119 ∷ 61 ∷ 57 ∷ 44 ∷ 49 ∷ 44 ∷ 48 ∷ 44 ∷ 48 ∷ 10 ∷
-    -- row=5,1,2,0
-    114 ∷ 111 ∷ 119 ∷ 61 ∷ 53 ∷ 44 ∷ 49 ∷ 44 ∷ 50 ∷ 44 ∷ 48 ∷ 10 ∷
-    -- row=2,1,3,0
-    114 ∷ 111 ∷ 119 ∷ 61 ∷ 50 ∷ 44 ∷ 49 ∷ 44 ∷ 51 ∷ 44 ∷ 48 ∷ 10 ∷ []
-
--- what it says
-abbrev wholeJob : Job
-wholeJob = record {
-  budget = 10;
-  room = 2;
-  marks = 2;
-  inputs = 7 ∷ 9 ∷ [];
-  table = 9 ∷ 0 ∷ 0 ∷ 0 ∷ 5 ∷ 0 ∷ 0 ∷ 0 ∷ 9 ∷ 1 ∷ 0 ∷ 0 ∷ 5 ∷ 1 ∷ 2 ∷ 0 ∷ 2 ∷ 1 ∷ 3 ∷ 0 ∷ [];
-}
-
--- "Output:"
-abbrev wholeReport : List ℕ
-wholeReport =
-    -- verdict=0
-    118 ∷ 101 ∷ 114 ∷ 100 ∷ 105 ∷ 99 ∷ 116 ∷ 61 ∷ 48 ∷ 10 ∷
-    -- place=0
-    112 ∷ 108 ∷ 97 ∷ 99 ∷ 101 ∷ 61 ∷ 48 ∷ 10 ∷
-    -- steps=2
-    115 ∷ 116 ∷ 101 ∷ 112 ∷ 115 ∷ 61 ∷ 50 ∷ 10 ∷
-    -- levels=2
-    108 ∷ 101 ∷ 118 ∷ 101 ∷ 108 ∷ 115 ∷ 61 ∷ 50 ∷ 10 ∷
-    -- marked=1
-    109 ∷ 97 ∷ 114 ∷ 107 ∷ 101 ∷ 100 ∷ 61 ∷ 49 ∷ 10 ∷
-    -- mem=7,9,0,0,0,0,0,0,0,0,0,0,0,0,0,0,0,0,0,0,0,0,0,0,0,0,0,0,0,0,0,0
-    109 ∷ 101 ∷ 109 ∷ 61 ∷ 55 ∷ 44 ∷ 57 ∷ 44 ∷ 48 ∷ 44 ∷ 48 ∷ 44 ∷ 48 ∷ 44 ∷ 48 ∷ 44 ∷ 48 ∷ 44 ∷ 48 ∷ 44 ∷ 48 ∷ 44 ∷ 48 ∷ 44 ∷ 48 ∷ 44 ∷ 48 ∷ 44 ∷ 48 ∷ 44 ∷ 48 ∷ 44 ∷ 48 ∷ 44 ∷ 48 ∷ 44 ∷ 48 ∷ 44 ∷ 48 ∷ 44 ∷ 48 ∷ 44 ∷ 48 ∷ 44 ∷ 48 ∷ 44 ∷ 48 ∷ 44 ∷ 48 ∷ 44 ∷ 48 ∷ 44 ∷ 48 ∷ 44 ∷ 48 ∷ 44 ∷ 48 ∷ 44 ∷ 48 ∷ 44 ∷ 48 ∷ 44 ∷ 48 ∷ 44 ∷ 48 ∷ 44 ∷ 48 ∷ 10 ∷
-    -- records=2
-    114 ∷ 101 ∷ 99 ∷ 111 ∷ 114 ∷ 100 ∷ 115 ∷ 61 ∷ 50 ∷ 10 ∷
-    -- out=0,7
-    111 ∷ 117 ∷ 116 ∷ 61 ∷ 48 ∷ 44 ∷ 55 ∷ 10 ∷
-    -- out=1,9
-    111 ∷ 117 ∷ 116 ∷ 61 ∷ 49 ∷ 44 ∷ 57 ∷ 10 ∷ []
-
--- The claim: the text reads as the job, and the report of the job's run, by the rules, is the output.
-abbrev pub WholeCase : Type 0
-WholeCase =
-    (readJob wholeText ≡ told wholeJob)
-    × (report (answer (wholeJob .table) (memoryOf (wholeJob .inputs)) (wholeJob .marks) (wholeJob .budget) (wholeJob .room + wholeJob .room))
-    ≡ wholeReport)
+use Rattle.job.specs.Jobs.{Told, untold, readJob}
 
 -- a text, and what it reads as
 pub record Reading : Type 0 where

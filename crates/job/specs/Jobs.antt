@@ -6,8 +6,9 @@ use mathlib.Core.List.{List, [], _∷_, _++_}
 use lib.Dec.{ltb}
 use lib.ListN.{length, getD, take, drop}
 use Rattle.rules.specs.Limits.{rowWords, mostRows, mostJobBytes}
-use Rattle.job.specs.Limits.{mostWord, mostRoom, mostInputs, lacksForm, tooLong, firstInput}
-use Rattle.job.specs.Lines.{budgetKey, roomKey, levelsKey, inputsKey, inKey, rowsKey, rowKeys, Line, line, faulty, inRange, lineOf, Lines, lines, broken, linesOf, lineText, oneText}
+use Rattle.lines.specs.Limits.{mostWord, lacksForm}
+use Rattle.job.specs.Limits.{mostRoom, mostInputs, tooLong, firstInput}
+use Rattle.lines.specs.Lines.{budgetKey, roomKey, levelsKey, inputsKey, inKey, rowsKey, rowKeys, Line, line, faulty, inRange, lineOf, Lines, lines, broken, linesOf, lineText, oneText}
 
 -- What a job says: budget, room and mark set, the values of v0 onward, and the words of the table.
 pub record Job : Type 0 where

@@ -1,10 +1,6 @@
--- The numbers of document 01's jobs and reports, each once, under a name.
+-- The numbers of document 01's jobs, each once, under a name.
 use Prim.Native.Nat.{ℕ, _*_}
 use Rattle.rules.specs.Limits.{width, rowWords, mostRows}
-
--- "one over 4,294,967,295 is 8"
-abbrev pub mostWord : ℕ
-mostWord = 4294967295
 
 -- "`room=` (records, 0 to 8192)"
 abbrev pub mostRoom : ℕ
@@ -21,14 +17,6 @@ firstInput = 5
 -- the words of "`rows=` (0 to 512)"
 abbrev pub tableWords : ℕ
 tableWords = rowWords * mostRows
-
--- 7: "a job line lacks the required form"
-abbrev pub lacksForm : ℕ
-lacksForm = 7
-
--- 8: "a job number is out of range"
-abbrev pub outOfRange : ℕ
-outOfRange = 8
 
 -- 9: "the job exceeds 32,768 bytes"
 abbrev pub tooLong : ℕ

@@ -4,17 +4,17 @@ use mathlib.Core.Path.{_≡_}
 use mathlib.Core.List.{List, [], _∷_, _++_}
 use lib.ListN.{length, take, drop, replicate}
 use Rattle.rules.specs.Limits.{width, rowWords}
-use Rattle.job.specs.declared.read.Key.{Key}
-use Rattle.job.specs.declared.read.Field.{Field}
-use Rattle.job.specs.declared.read.Line.{Line}
-use Rattle.job.specs.declared.read.RowLine.{RowLine}
-use Rattle.job.specs.declared.read.Lines.{Lines}
-use Rattle.job.specs.declared.read.Read.{Read}
-use Rattle.job.specs.declared.read.Reading.{Reading}
+use Rattle.job.specs.declared.Key.{Key}
+use Rattle.job.specs.declared.Field.{Field}
+use Rattle.job.specs.declared.Line.{Line}
+use Rattle.job.specs.declared.RowLine.{RowLine}
+use Rattle.job.specs.declared.Lines.{Lines}
+use Rattle.job.specs.declared.Read.{Read}
+use Rattle.job.specs.declared.Reading.{Reading}
 use Rattle.job.specs.Limits.{tableWords}
 use Rattle.job.specs.Jobs.{Told, told, untold}
-use Rattle.job.specs.Numbers.{Number, noNumber, number}
-use Rattle.job.specs.Lines as spec
+use Rattle.lines.specs.Numbers.{Number, noNumber, number}
+use Rattle.lines.specs.Lines as spec
 
 abbrev pub keySaid : List ℕ → Key → spec.After
 keySaid text Key.Absent = spec.absent

@@ -36,6 +36,16 @@ pub fn without_mark(marks: Marks, variable: u32) -> Marks
     marks & !only_mark(variable)
 }
 
+// The set with the variable marked or unmarked.
+pub fn mark_as(marks: Marks, variable: u32, bit: bool) -> Marks
+    ensures { λ r. ⌜ r ≡ put (variable % width) bit marks ⌝ }
+{
+    if bit {
+        return with_mark(marks, variable);
+    }
+    without_mark(marks, variable)
+}
+
 // What stands in either set.
 pub fn joined(a: Marks, b: Marks) -> Marks
     ensures { λ r. ⌜ r ≡ union a b ⌝ }

@@ -7,15 +7,13 @@ use rules::Advice;
 use rules::Checked;
 use rules::Judged;
 use rules::Marks;
+use rules::ROW_WORDS;
 use table::judge;
 ghost use mathlib.Core.Path.{_≡_};
 ghost use Rattle.rules.specs.Answers.{advice};
 ghost use Rattle.rules.specs.declared.Checked.{Checked};
 ghost use Rattle.levels.specs.Found.{checkedAt};
 ghost use Rattle.levels.specs.Told.{advisedOf};
-
-// "four words: kind, p, q, r"
-const ROW_WORDS: usize = 4;
 
 // "pass, or fail with the lowest failing row", where that row and 1 is known, or 0 for none.
 fn checked_at(lowest: u32) -> Checked

@@ -1,8 +1,8 @@
 // "An expression is provisional when some variable read in it is marked."
 use leaves::marks::has_mark;
+use rows::read_row;
 use rules::Kind;
 use rules::Marks;
-use table::rows::read_row;
 ghost use mathlib.Core.Path.{_≡_};
 ghost use Prim.Native.Nat.{_<_};
 ghost use lib.ListN.{length};

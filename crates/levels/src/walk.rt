@@ -1,19 +1,17 @@
 // The walk over a statement: what it makes of the marks, and which of its outputs fail.
 use crate::provisional::is_guarded;
 use leaves::marks::joined;
-use leaves::marks::with_mark;
-use leaves::marks::without_mark;
+use leaves::marks::mark_as;
+use rows::read_row;
 use rules::Kind;
 use rules::Marks;
 use rules::VARIABLES;
-use table::rows::read_row;
 ghost use mathlib.Core.Bool.{_&&_};
 ghost use mathlib.Core.Path.{_≡_};
-ghost use Prim.Native.Nat.{ℕ, _+_, _%_, _<_};
+ghost use Prim.Native.Nat.{ℕ, _+_, _<_};
 ghost use lib.Dec.{eqb};
 ghost use lib.ListN.{length};
 ghost use Rattle.rules.specs.Limits.{width};
-ghost use Rattle.rules.specs.Marks.{put};
 ghost use Rattle.rules.specs.Rows.{rowsOf};
 ghost use Rattle.rules.specs.Trees.{exprAt, stmtAt};
 ghost use Rattle.rules.specs.LevelRules.{under};
@@ -41,16 +39,6 @@ fn lower(a: u32, b: u32) -> u32
         return b;
     }
     a
-}
-
-// The marks with the variable marked or unmarked.
-fn mark_as(marks: Marks, variable: u32, bit: bool) -> Marks
-    ensures { λ r. ⌜ r ≡ put (variable % width) bit marks ⌝ }
-{
-    if bit {
-        return with_mark(marks, variable);
-    }
-    without_mark(marks, variable)
 }
 
 // Where an output fails: "if it is on channel 0 and its expression or context is provisional".

@@ -4,6 +4,7 @@ use rules::Ended;
 use rules::Judged;
 use rules::Marks;
 use rules::Memory;
+use rules::ROW_WORDS;
 use rules::VARIABLES;
 use step::ENTRIES;
 use step::Held;
@@ -14,6 +15,7 @@ ghost use Prim.Native.Nat.{_≤_};
 ghost use lib.ListN.{length};
 ghost use Rattle.rules.specs.declared.Ended.{Ended};
 ghost use Rattle.rules.specs.declared.Judged.{Judged};
+ghost use Rattle.rules.specs.Limits.{mostTraceWords};
 ghost use Rattle.rules.specs.Judging.{judge};
 ghost use Rattle.rules.specs.Rows.{rowsOf};
 ghost use Rattle.rules.specs.Answers.{answer, traceAfter, toldOf, telling};
@@ -102,13 +104,13 @@ fn run_accepted(
     budget: u32,
     trace: &mut [u32],
 ) -> Answer
-    requires { ⌜ (judge (now table) ≡ Judged.Accepted) × (length (now trace) ≤ 16384) ⌝ }
+    requires { ⌜ (judge (now table) ≡ Judged.Accepted) × (length (now trace) ≤ mostTraceWords) ⌝ }
     ensures { λ r. ⌜ (toldOf r ≡ telling (answer (now (table .entry)) (memory .words) marks budget (length (now (trace .entry))))) × (now (trace .exit) ≡ traceAfter (answer (now (table .entry)) (memory .words) marks budget (length (now (trace .entry))) .records) (now (trace .entry))) ⌝ }
 {
     let mut words = memory.words;
     let mut entries = [0u32; ENTRIES];
     let mut pile = [0u32; SETS];
-    entries[0] = (table.len() / 4) as u32;
+    entries[0] = (table.len() / ROW_WORDS) as u32;
     let held = Held {
         pending: 1,
         pile: 0,

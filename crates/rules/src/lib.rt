@@ -3,6 +3,12 @@
 // "Memory has 32 variables, v0 to v31."
 pub const VARIABLES: usize = 32;
 
+// "A row is four words: kind, p, q, r."
+pub const ROW_WORDS: usize = 4;
+
+// "over 512 rows"
+pub const MOST_ROWS: usize = 512;
+
 // "A mark set is 32 bits; bit i set means that vi is provisional."
 pub type Marks = u32;
 

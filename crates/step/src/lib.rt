@@ -3,14 +3,13 @@ use expression::assigned::may_assign;
 use expression::values::Valued;
 use expression::values::evaluate;
 use leaves::marks::joined;
-use leaves::marks::with_mark;
-use leaves::marks::without_mark;
+use leaves::marks::mark_as;
 use leaves::memory::store_lent;
+use rows::read_row;
 use rules::Kind;
 use rules::Marks;
 use rules::Row;
 use rules::VARIABLES;
-use table::rows::read_row;
 ghost use mathlib.Core.Bool.{true, false, not, _||_, _&&_};
 ghost use mathlib.Core.List.{_∷_};
 ghost use mathlib.Core.Path.{_≡_};
@@ -76,16 +75,6 @@ fn is_denied(channel: u32, level: Marks, height: usize) -> bool
         return false;
     }
     is_guarded(level, height)
-}
-
-// The marks with the variable marked or unmarked.
-fn mark_as(marks: Marks, variable: u32, bit: bool) -> Marks
-    ensures { λ r. ⌜ r ≡ put (variable % width) bit marks ⌝ }
-{
-    if bit {
-        return with_mark(marks, variable);
-    }
-    without_mark(marks, variable)
 }
 
 // Pushes the empty set if the test or the context is provisional, and answers the pile's height.

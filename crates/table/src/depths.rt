@@ -1,9 +1,9 @@
 // Refusal 5: a tree whose height, nesting or loop nesting is over its limit.
-use crate::MOST_ROWS;
-use crate::rows::read_row;
+use rows::read_row;
 use rules::Depth;
 use rules::Judged;
 use rules::Kind;
+use rules::MOST_ROWS;
 ghost use mathlib.Core.Path.{_≡_};
 ghost use Prim.Native.Nat.{_%_, _≤_, max};
 ghost use lib.ListN.{length};

@@ -1,19 +1,15 @@
-// The table: its rows, what each word of a row is, and the judge.
-use crate::rows::ROW_WORDS;
+// The judge of a table.
 use rules::Judged;
+use rules::MOST_ROWS;
+use rules::ROW_WORDS;
 ghost use mathlib.Core.Path.{_≡_};
 ghost use Rattle.rules.specs.Judging.{wrongCount};
 ghost use Rattle.rules.specs.Answers.{saidOfJudge, judgement};
 
 mod children;
 mod depths;
-mod kinds;
 mod parents;
-pub mod rows;
 mod words;
-
-// "over 512 rows"
-const MOST_ROWS: usize = 512;
 
 // Whether refusal 1 applies: "word count not a multiple of 4, or 0 rows, or over 512 rows".
 fn wrong_count(table: &[u32]) -> bool

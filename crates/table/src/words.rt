@@ -1,6 +1,6 @@
 // Refusal 2: a row of no known kind, or with a word that its role does not allow.
-use crate::kinds::roles_of;
-use crate::rows::read_row;
+use rows::kinds::roles_of;
+use rows::read_row;
 use rules::Judged;
 use rules::Kind;
 use rules::Role;

@@ -2,7 +2,7 @@
 // standard error says so; then no report is begun, or no more of it is written.
 mod streams;
 
-use job::write::Wrote;
+use report::Wrote;
 use streams::Moved;
 
 // One byte more than a job may have, so that a longer one is seen to be too long.

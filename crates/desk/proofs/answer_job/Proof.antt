@@ -1,11 +1,9 @@
 -- `desk::answer_job` meets its contract. Assumes nothing.
-use Prim.Native.Nat.{_*_}
 use mathlib.Core.List.{List}
 use mathlib.Core.Path.{sym, ap, _∙_}
 use denote.Ref.{now}
-use Rattle.rules.specs.Limits.{rowWords}
-use Rattle.job.specs.Written.{placedIn}
-use Rattle.job.proofs.ReportLaws.{written-short, refusal-placed}
+use Rattle.report.specs.Written.{placedIn}
+use Rattle.report.proofs.ReportLaws.{written-short, refusal-placed}
 use Rattle.desk.specs.Desk.{mostReport, jobReport}
 use Rattle.desk.proofs.DeskLaws.{handed-on, refused-report}
 use native.Mathlib.Omega.{arith}

@@ -3,8 +3,8 @@ use Prim.Native.Nat.{ℕ}
 use mathlib.Core.Path.{sym, ap, _∙_}
 use denote.Ref.{now}
 use Rattle.rules.specs.Answers.{answer}
-use Rattle.job.specs.Reports.{report}
-use Rattle.job.specs.Written.{placedIn}
+use Rattle.report.specs.Reports.{report}
+use Rattle.report.specs.Written.{placedIn}
 use Rattle.desk.specs.Desk.{mostReport}
 use native.Mathlib.Omega.{arith}
 use Rattle.desk.proofs.DeskLaws.{room-lent}

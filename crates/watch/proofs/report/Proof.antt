@@ -1,7 +1,7 @@
 -- `watch::report` is safe and ends. Assumes nothing.
 use mathlib.Core.Path.{sym}
 use borrow.Table.Elements.{length-take-le}
-use Rattle.job.proofs.ReportLaws.{written-within}
+use Rattle.report.proofs.ReportLaws.{written-within}
 use Rattle.desk.specs.Desk.{mostReport}
 use borrow.Author.Needs.{needs}
 use Rattle.watch.proofs.report.Statement.{statement}

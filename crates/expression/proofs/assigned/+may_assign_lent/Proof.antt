@@ -21,7 +21,7 @@ use Rattle.expression.proofs.assigned.may_assign_lent.Kinds as may-assi
 use Rattle.expression.proofs.assigned.+may_assign_lent.Lts-may_assign_lent as may-assign-lts
 use Rattle.leaves.proofs.marks.joined.Reads as joined-reads
 use Rattle.leaves.proofs.marks.only_mark.Reads as only-mark-reads
-use Rattle.table.proofs.rows.read_row.Reads as read-row-reads
+use Rattle.rows.proofs.read_row.Reads as read-row-reads
 use Rattle.expression.proofs.assigned.+may_assign_lent.{statement}
 use Rattle.expression.proofs.assigned.+may_assign_lent.Tie.{close}
 

@@ -23,7 +23,7 @@ use Rattle.expression.proofs.values.+evaluate_lent.Lts-evaluate_lent as
 use Rattle.leaves.proofs.marks.joined.Reads as joined-reads
 use Rattle.leaves.proofs.operators.operated.Reads as operated-reads
 use Rattle.expression.proofs.values.read_variable.Reads as read-variable-reads
-use Rattle.table.proofs.rows.read_row.Reads as read-row-reads
+use Rattle.rows.proofs.read_row.Reads as read-row-reads
 use Rattle.expression.proofs.values.+evaluate_lent.{statement}
 use Rattle.expression.proofs.values.+evaluate_lent.Tie.{close}
 

@@ -21,7 +21,7 @@ use Rattle.levels.proofs.provisional.is_provisional.Reads as is-provisi
 use Rattle.levels.proofs.provisional.is_provisional.Kinds as is-provisional-kinds
 use Rattle.levels.proofs.provisional.+is_provisional.Lts-is_provisional as is-provisional-lts
 use Rattle.leaves.proofs.marks.has_mark.Reads as has-mark-reads
-use Rattle.table.proofs.rows.read_row.Reads as read-row-reads
+use Rattle.rows.proofs.read_row.Reads as read-row-reads
 use Rattle.levels.proofs.provisional.+is_provisional.{statement}
 use Rattle.levels.proofs.provisional.+is_provisional.Tie.{close}
 

@@ -36,8 +36,8 @@ use Rattle.leaves.proofs.marks.joined.Reads as joined-reads
 use Rattle.levels.proofs.provisional.is_guarded.Reads as is-guarded-reads
 use Rattle.levels.proofs.walk.failing_at.Reads as failing-at-reads
 use Rattle.levels.proofs.walk.lower.Reads as lower-reads
-use Rattle.levels.proofs.walk.mark_as.Reads as mark-as-reads
-use Rattle.table.proofs.rows.read_row.Reads as read-row-reads
+use Rattle.leaves.proofs.marks.mark_as.Reads as mark-as-reads
+use Rattle.rows.proofs.read_row.Reads as read-row-reads
 use Rattle.levels.proofs.walk.+walk+walk_loop.{statement}
 use Rattle.levels.proofs.walk.+walk+walk_loop.Tie.{close}
 

@@ -1,0 +1,4 @@
+pub mod NumberLaws
+pub mod LineLaws
+pub mod DecimalLaws
+pub mod LineTrip

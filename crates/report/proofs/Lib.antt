@@ -1,0 +1,3 @@
+pub mod Evaluation
+pub mod WriteLaws
+pub mod ReportLaws
