@@ -139,12 +139,7 @@ pub fn by_independent(case: &Case) -> Left {
 
 /// "A buffer that is too short is refused by a status, and then nothing at all has changed."
 fn too_short(case: &Case) -> u32 {
-    let needed = match case.question {
-        Question::Judge => JUDGE_WORDS,
-        Question::Check => CHECK_WORDS,
-        Question::Run(_) | Question::Pair(..) => RUN_WORDS,
-    };
-    if case.answer_words < needed {
+    if case.answer_words < case.question.answer_names().len() {
         return ANSWER_TOO_SHORT;
     }
     if case

@@ -22,6 +22,28 @@ pub enum Question {
     Pair(Given, Given),
 }
 
+impl Question {
+    fn name(&self) -> &'static str {
+        match self {
+            Question::Judge => "judge",
+            Question::Check => "level check",
+            Question::Run(_) => "run",
+            Question::Pair(..) => "pair of runs",
+        }
+    }
+
+    /// What the words of an answer are.
+    pub fn answer_names(&self) -> &'static [&'static str] {
+        match self {
+            Question::Judge => &["refusal", "verdict", "row"],
+            Question::Check => &["refusal", "verdict", "row", "marks"],
+            Question::Run(_) | Question::Pair(..) => {
+                &["refusal", "verdict", "row", "steps", "records", "marks"]
+            }
+        }
+    }
+}
+
 #[derive(Clone)]
 pub struct Case {
     pub table: Vec<u32>,
@@ -48,37 +70,31 @@ impl Case {
         }
     }
 
-    fn name(&self) -> &'static str {
-        match self.question {
-            Question::Judge => "judge",
-            Question::Check => "level check",
-            Question::Run(_) => "run",
-            Question::Pair(..) => "pair of runs",
-        }
-    }
-
     /// The case as jobs, one for each run, and what a job cannot say.
     pub fn text(&self) -> String {
-        let mut text = format!("asked: {}\n", self.name());
+        let mut text = format!("asked: {}\n\n", self.question.name());
         let whole = self.table.len() - self.table.len() % ROW_WORDS;
         let setting = Setting::of_words(self.table[..whole].to_vec()).levels(self.marks);
         if self.givens().is_empty() {
-            text += &format!("\n{}\n", setting.job_text());
+            text += &setting.job_text();
         }
         for given in self.givens() {
-            let inputs = given.memory.len().min(VARIABLES);
-            let setting = setting.clone().inputs(&given.memory[..inputs]);
-            let setting = setting.budget(given.budget).lent(given.trace_words);
-            text += &format!("\n{}\n", setting.job_text());
-            text += &format!(
-                "lent: {} words of memory, {} words of trace\n",
-                given.memory.len(),
-                given.trace_words
-            );
+            let inputs = setting.clone().inputs(inputs(&given.memory));
+            let job = inputs.budget(given.budget).lent(given.trace_words);
+            let (memory, trace) = (given.memory.len(), given.trace_words);
+            text += &job.job_text();
+            text += &format!("lent: {memory} words of memory, {trace} of trace\n\n");
         }
         if whole < self.table.len() {
             text += &format!("words after the last row: {:?}\n", &self.table[whole..]);
         }
         text + &format!("lent: {} words for the answer\n", self.answer_words)
     }
+}
+
+/// The variables that a job has to name: "others 0".
+fn inputs(memory: &[u32]) -> &[u32] {
+    let variables = &memory[..memory.len().min(VARIABLES)];
+    let last = variables.iter().rposition(|value| *value != 0);
+    &variables[..last.map_or(0, |last| last + 1)]
 }

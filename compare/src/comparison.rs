@@ -24,26 +24,36 @@ const NO_ROOM: u32 = Verdict::NoRoom as u32;
 /// Why a case is one that a comparison must not meet: both answers, or the demand that is broken.
 pub fn difference(case: &Case) -> Option<String> {
     if let Question::Pair(one, other) = &case.question {
-        return Pair::of(&case.table, case.marks, one, other).broken();
+        let pair = Pair::of(&case.table, case.marks, one, other);
+        return pair.broken().filter(|_| agree(case.marks, one, other));
     }
     let (proved, independent) = (by_library(case), by_independent(case));
     (proved != independent).then(|| {
-        format!(
-            "proved:\n{}independent:\n{}",
-            left_text(&proved),
-            left_text(&independent)
-        )
+        let (proved, independent) = (left_text(case, &proved), left_text(case, &independent));
+        format!("proved:\n{proved}independent:\n{independent}")
     })
 }
 
-fn left_text(left: &Left) -> String {
-    format!(
-        "  status {}, answer {:?}\n  memory {:?}\n  trace {}\n",
-        left.status,
-        left.answer,
-        left.memory,
-        trace_text(&left.trace)
-    )
+/// Whether two memories are equal in every variable that is not marked; a case that is made
+/// smaller may be no pair any more.
+fn agree(marks: u32, one: &Given, other: &Given) -> bool {
+    let mut settled = (0..VARIABLES).filter(|variable| marks >> variable & 1 == 0);
+    settled.all(|variable| one.memory[variable] == other.memory[variable])
+}
+
+fn left_text(case: &Case, left: &Left) -> String {
+    let mut text = format!("  status {}", left.status);
+    if left.status == ANSWERED {
+        for (name, word) in case.question.answer_names().iter().zip(&left.answer) {
+            text += &format!(", {name} {word}");
+        }
+    }
+    text += &format!("\n  answer's words {:?}\n", left.answer);
+    if let Question::Run(_) = case.question {
+        let trace = trace_text(&left.trace);
+        text += &format!("  memory {:?}\n  trace {trace}\n", left.memory);
+    }
+    text
 }
 
 /// A long trace is cut, with a sum over all its words that tells two of them apart.

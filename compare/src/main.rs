@@ -11,6 +11,7 @@ mod shrink;
 mod tables;
 mod words;
 
+use std::panic::{catch_unwind, AssertUnwindSafe};
 use std::process::ExitCode;
 use std::time::Instant;
 
@@ -97,9 +98,8 @@ fn compare(options: &Options) -> ExitCode {
     let mut tally = Tally::new();
     let mut told = 0;
     for table in options.first..options.first.saturating_add(options.count) {
-        let mut random = Random::new(seed_of(options.seed, table));
-        if let Err(case) = compare_on_a_table(&mut random, &mut tally) {
-            print!("{}", found(*case, options.seed, table));
+        if let Err(text) = compare_on(options.seed, table, &mut tally) {
+            print!("{text}");
             return ExitCode::from(FAILED);
         }
         let seconds = began.elapsed().as_secs();
@@ -116,17 +116,27 @@ fn compare(options: &Options) -> ExitCode {
     all_kinds(options, &tally)
 }
 
+/// Compares on one table; answers what is to be told of a difference.
+fn compare_on(seed: u64, table: u64, tally: &mut Tally) -> Result<(), String> {
+    let mut random = Random::new(seed_of(seed, table));
+    let compared = catch_unwind(AssertUnwindSafe(|| compare_on_a_table(&mut random, tally)));
+    let which = format!("(seed {seed}, table {table})");
+    match compared {
+        Ok(compared) => compared.map_err(|case| found(*case, &which)),
+        Err(_) => Err(format!("compare: one side broke off {which}\n")),
+    }
+}
+
 /// Each table has a generator of its own, so that one can be seen again without the others.
 fn seed_of(seed: u64, table: u64) -> u64 {
     seed.rotate_left(u32::BITS) ^ table
 }
 
 /// The smallest case with a difference, as a job with both answers.
-fn found(case: Case, seed: u64, table: u64) -> String {
+fn found(case: Case, which: &str) -> String {
     let case = smallest(case, |case| difference(case).is_some());
     let why = difference(&case).unwrap_or_default();
-    let tables = format!("seed {seed}, table {table}");
-    format!("compare: a difference ({tables})\n{}\n{why}\n", case.text())
+    format!("compare: a difference {which}\n{}\n{why}\n", case.text())
 }
 
 fn summary(options: &Options, tally: &Tally) -> String {

@@ -1,27 +1,77 @@
 //! The smallest case that still has a difference, found by trying smaller ones.
 
-use independent::table::{CONSTANT, ROW_WORDS, SKIP};
+use independent::marks::VARIABLES;
+use independent::run::RECORD_WORDS;
+use independent::table::{Word, CONSTANT, ROW_WORDS, SKIP};
 
-use crate::case::Case;
+use crate::calls::{by_library, ANSWERED};
+use crate::case::{Case, Question};
+use crate::tables::Names;
 use crate::words::{children, is_child, is_expression, places, without};
 
-/// A table is changed only under budgets up to this: a changed one may be endless.
+/// Nothing but the budget is changed above this: a changed run may be endless.
 const MOST_BUDGET: u32 = 1_000_000;
 
-/// Takes smaller cases that still differ until there is none.
+/// One way to make a case smaller.
+#[derive(Clone, Copy)]
+enum Change {
+    Budget {
+        run: usize,
+        to: u32,
+    },
+    /// So many words are cut off the table's end.
+    Cut(usize),
+    /// A child of the same sort takes its parent's place.
+    Raise {
+        row: usize,
+        child: usize,
+    },
+    /// Skip or the constant 0 takes a row's place.
+    Empty(usize),
+    /// A row is left out, in a table whose rows are no tree.
+    Drop(usize),
+    Word {
+        at: usize,
+        to: u32,
+    },
+    Trace {
+        run: usize,
+        to: u32,
+    },
+    /// In both memories of a pair, which stay equal where they are.
+    Memory {
+        variable: usize,
+        to: u32,
+    },
+    Unmark(usize),
+    Answer(u32),
+    Exchange {
+        lower: usize,
+        variable: usize,
+    },
+}
+
+/// Changes the case while it still differs, until no change does that. After a change the next
+/// ones are tried, not the first ones again: a table of 512 rows has thousands.
 pub fn smallest(mut case: Case, differs: impl Fn(&Case) -> bool) -> Case {
-    while let Some(other) = smaller_that(&case, &differs) {
-        case = other;
+    let mut tried = 0;
+    loop {
+        let changes = changes(&case);
+        let rest = changes.iter().enumerate().skip(tried);
+        let found = rest.filter_map(|(at, change)| {
+            let fits = |other: &Case| size(other) < size(&case) && differs(other);
+            let other = fitted(changed(&case, *change)).into_iter().find(fits);
+            other.map(|other| (at, other))
+        });
+        match found.into_iter().next() {
+            Some((at, other)) => (tried, case) = (at, other),
+            None if tried == 0 => return case,
+            None => tried = 0,
+        }
     }
-    case
 }
 
-fn smaller_that(case: &Case, differs: impl Fn(&Case) -> bool) -> Option<Case> {
-    let fits = |other: &Case| size(other) < size(case) && differs(other);
-    smaller(case).find(fits)
-}
-
-/// What every step makes smaller: first the rows, then all numbers.
+/// What every change makes smaller: first the rows, then all numbers.
 fn size(case: &Case) -> (usize, u64) {
     let sum = |words: &[u32]| words.iter().map(|word| u64::from(*word)).sum::<u64>();
     let given = case.givens().into_iter().map(|given| {
@@ -32,106 +82,126 @@ fn size(case: &Case) -> (usize, u64) {
     (case.table.len(), numbers + given.sum::<u64>())
 }
 
-/// Cases to try, the boldest first.
-fn smaller(case: &Case) -> impl Iterator<Item = Case> + '_ {
-    let bounded = case
-        .givens()
-        .iter()
-        .all(|given| given.budget <= MOST_BUDGET);
-    let lent = smaller_givens(case).chain(smaller_numbers(case));
-    let tables = smaller_tables(&case.table).filter(move |_| bounded);
-    let tables = tables.map(|table| Case {
-        table,
-        ..case.clone()
-    });
-    smaller_budgets(case).chain(tables).chain(lent)
+/// The changes to try, the boldest first.
+fn changes(case: &Case) -> Vec<Change> {
+    let mut changes = Vec::new();
+    for (run, given) in case.givens().into_iter().enumerate() {
+        let budgets = smaller_values(given.budget);
+        changes.extend(budgets.map(|to| Change::Budget { run, to }));
+    }
+    let budgets = case.givens().into_iter().map(|given| given.budget);
+    if budgets.max().unwrap_or(0) <= MOST_BUDGET {
+        changes.extend(table_changes(&case.table));
+        changes.extend(lent_changes(case));
+        changes.extend(lower_names(&case.table));
+    }
+    changes
 }
 
 /// Numbers to try in place of one.
 fn smaller_values(value: u32) -> impl Iterator<Item = u32> {
-    let values = [
-        0,
-        1,
-        value / 2,
-        value.saturating_sub(2),
-        value.saturating_sub(1),
-    ];
+    let less = |by| value.saturating_sub(by);
+    let values = [0, 1, value / 2, less(2), less(1)];
     values.into_iter().filter(move |other| *other < value)
 }
 
-fn smaller_budgets(case: &Case) -> impl Iterator<Item = Case> + '_ {
-    (0..case.givens().len()).flat_map(move |i| {
-        let values = smaller_values(case.givens()[i].budget);
-        values.map(move |budget| {
-            let mut other = case.clone();
-            other.givens_mut()[i].budget = budget;
-            other
-        })
-    })
+fn table_changes(table: &[u32]) -> Vec<Change> {
+    let cuts = [table.len() / 2, ROW_WORDS, 1].into_iter();
+    let cuts = cuts.filter(|words| *words <= table.len());
+    let mut changes: Vec<Change> = cuts.map(Change::Cut).collect();
+    for row in (0..table.len() / ROW_WORDS).rev() {
+        let raised = children(table, row).into_iter().filter(|child| {
+            *child < row && is_expression(table, *child) == is_expression(table, row)
+        });
+        changes.extend(raised.map(|child| Change::Raise { row, child }));
+        changes.extend([Change::Empty(row), Change::Drop(row)]);
+    }
+    for (at, word) in table.iter().enumerate() {
+        changes.extend(smaller_values(*word).map(|to| Change::Word { at, to }));
+    }
+    changes
 }
 
-/// Shorter traces; memories with a smaller word. A pair's memories stay equal where they are:
-/// a word is made smaller in both.
-fn smaller_givens(case: &Case) -> impl Iterator<Item = Case> + '_ {
-    let traces = (0..case.givens().len()).flat_map(move |i| {
-        let values = smaller_values(case.givens()[i].trace_words as u32);
-        values.map(move |words| {
-            let mut other = case.clone();
-            other.givens_mut()[i].trace_words = words as usize;
-            other
-        })
-    });
-    let variables = case.givens().iter().map(|given| given.memory.len()).max();
-    let memories = (0..variables.unwrap_or(0)).flat_map(move |variable| {
-        let most = case
-            .givens()
-            .into_iter()
-            .map(|given| given.memory[variable]);
-        smaller_values(most.max().unwrap_or(0)).map(move |value| {
-            let mut other = case.clone();
+/// Traces, memories, marks and the buffer for the answer.
+fn lent_changes(case: &Case) -> Vec<Change> {
+    let mut changes = Vec::new();
+    for (run, given) in case.givens().into_iter().enumerate() {
+        let traces = smaller_values(given.trace_words as u32);
+        changes.extend(traces.map(|to| Change::Trace { run, to }));
+        for (variable, value) in given.memory.iter().enumerate() {
+            let values = smaller_values(*value);
+            changes.extend(values.map(|to| Change::Memory { variable, to }));
+        }
+    }
+    let marked = (0..VARIABLES).filter(|variable| case.marks >> variable & 1 == 1);
+    changes.extend(marked.map(Change::Unmark));
+    changes.extend(smaller_values(case.answer_words as u32).map(Change::Answer));
+    changes
+}
+
+/// Each variable of the table under the name of a lower one, in marks and memories too.
+fn lower_names(table: &[u32]) -> Vec<Change> {
+    let used = places(table, |role| role == Word::Variable).into_iter();
+    let used = used.map(|place| table[place] as usize);
+    let used = used.filter(|variable| *variable < VARIABLES);
+    let lower = |variable| (0..variable).map(move |lower| Change::Exchange { lower, variable });
+    used.flat_map(lower).collect()
+}
+
+fn changed(case: &Case, change: Change) -> Case {
+    let mut other = case.clone();
+    let table = &case.table;
+    match change {
+        Change::Budget { run, to } => other.givens_mut()[run].budget = to,
+        Change::Cut(words) => other.table.truncate(table.len() - words),
+        Change::Raise { row, child } => other.table = raised(table, row, child),
+        Change::Empty(row) => other.table = emptied(table, row),
+        Change::Drop(row) => other.table = dropped(table, row),
+        Change::Word { at, to } => other.table[at] = to,
+        Change::Trace { run, to } => other.givens_mut()[run].trace_words = to as usize,
+        Change::Memory { variable, to } => {
             for given in other.givens_mut() {
-                given.memory[variable] = given.memory[variable].min(value);
+                given.memory[variable] = given.memory[variable].min(to);
             }
-            other
-        })
-    });
-    traces.chain(memories)
+        }
+        Change::Unmark(variable) => other.marks &= !(1 << variable),
+        Change::Answer(words) => other.answer_words = words as usize,
+        Change::Exchange { lower, variable } => {
+            let names = Names::exchanged(lower, variable);
+            names.of_table(&mut other.table);
+            other.marks = names.of_marks(case.marks);
+            for given in other.givens_mut() {
+                names.of_memory(&mut given.memory);
+            }
+        }
+    }
+    other
 }
 
-/// Fewer marks, and a shorter answer buffer.
-fn smaller_numbers(case: &Case) -> impl Iterator<Item = Case> + '_ {
-    let marks = (0..u32::BITS).map(move |variable| Case {
-        marks: case.marks & !(1 << variable),
-        ..case.clone()
-    });
-    let buffers = smaller_values(case.answer_words as u32).map(move |words| Case {
-        answer_words: words as usize,
-        ..case.clone()
-    });
-    marks.chain(buffers)
-}
-
-fn smaller_tables(table: &[u32]) -> impl Iterator<Item = Vec<u32>> + '_ {
-    let rows = table.len() / ROW_WORDS;
-    let cut = [table.len() / 2, ROW_WORDS, 1];
-    let cut = cut
-        .into_iter()
-        .filter(|words| *words <= table.len())
-        .map(|words| table[..table.len() - words].to_vec());
-    let by_row = (0..rows).rev().flat_map(move |row| {
-        let mut tables = raised(table, row);
-        tables.push(emptied(table, row));
-        tables.push(dropped(table, row));
-        tables
-    });
-    let by_word = (0..table.len()).flat_map(move |at| {
-        smaller_values(table[at]).map(move |value| {
-            let mut other = table.to_vec();
-            other[at] = value;
-            other
-        })
-    });
-    cut.chain(by_row).chain(by_word)
+/// The case, and the same with the budget, or the words of the trace, that its run takes: a
+/// difference at a run's very end is lost where the run is shorter and these are not.
+fn fitted(case: Case) -> Vec<Case> {
+    let Question::Run(given) = &case.question else {
+        return vec![case];
+    };
+    // A run that the highest budgets allow may be endless once it is changed.
+    if given.budget > MOST_BUDGET {
+        return vec![case];
+    }
+    let left = by_library(&case);
+    if left.status != ANSWERED || left.refusal() != 0 {
+        return vec![case];
+    }
+    let end = left.end();
+    let odd = given.trace_words % RECORD_WORDS;
+    let (mut budget, mut trace) = (case.clone(), case.clone());
+    for given in budget.givens_mut() {
+        given.budget = end.steps;
+    }
+    for given in trace.givens_mut() {
+        given.trace_words = given.trace_words.min(end.filled + odd);
+    }
+    vec![case, budget, trace]
 }
 
 /// Which rows stand below a row, itself among them.
@@ -149,31 +219,19 @@ fn subtree(table: &[u32], row: usize) -> Vec<bool> {
     within
 }
 
-/// The table with one of a row's children in the row's place, for each child of the same sort.
-fn raised(table: &[u32], row: usize) -> Vec<Vec<u32>> {
-    let same_sort =
-        |child: &usize| *child < row && is_expression(table, *child) == is_expression(table, row);
-    let raised = |child: usize| {
-        let mut other = table.to_vec();
-        for place in places(table, is_child) {
-            if other[place] as usize == row {
-                other[place] = child as u32;
-            }
+/// The table with one of a row's children in the row's place.
+fn raised(table: &[u32], row: usize, child: usize) -> Vec<u32> {
+    let mut other = table.to_vec();
+    for place in places(table, is_child) {
+        if other[place] as usize == row {
+            other[place] = child as u32;
         }
-        let kept = subtree(table, child);
-        let gone = subtree(table, row);
-        let gone: Vec<bool> = gone
-            .iter()
-            .zip(kept)
-            .map(|(gone, kept)| *gone && !kept)
-            .collect();
-        without(&other, &gone)
-    };
-    children(table, row)
-        .into_iter()
-        .filter(same_sort)
-        .map(raised)
-        .collect()
+    }
+    let mut gone = subtree(table, row);
+    for (gone, kept) in gone.iter_mut().zip(subtree(table, child)) {
+        *gone &= !kept;
+    }
+    without(&other, &gone)
 }
 
 /// The table with skip or the constant 0 in a row's place.
@@ -190,7 +248,7 @@ fn emptied(table: &[u32], row: usize) -> Vec<u32> {
     without(&other, &gone)
 }
 
-/// The table without a row, for tables whose rows are no tree.
+/// The table without a row.
 fn dropped(table: &[u32], row: usize) -> Vec<u32> {
     let mut gone = vec![false; table.len() / ROW_WORDS];
     gone[row] = true;

@@ -242,6 +242,13 @@ impl Names {
         Names(names)
     }
 
+    /// Two variables exchange their names.
+    pub fn exchanged(one: usize, other: usize) -> Names {
+        let mut names = std::array::from_fn(|variable| variable as u32);
+        names.swap(one, other);
+        Names(names)
+    }
+
     /// The table with its variables renamed; a word that is no variable's number stays.
     pub fn of_table(&self, words: &mut [u32]) {
         for place in places(words, |role| role == Word::Variable) {
@@ -254,5 +261,13 @@ impl Names {
     pub fn of_marks(&self, marks: u32) -> u32 {
         let marked = (0..VARIABLES).filter(|variable| marks >> variable & 1 == 1);
         marked.fold(0, |renamed, variable| renamed | 1 << self.0[variable])
+    }
+    pub fn of_memory(&self, memory: &mut [u32]) {
+        let before = memory.to_vec();
+        for (variable, name) in self.0.iter().enumerate().take(before.len()) {
+            if let Some(value) = memory.get_mut(*name as usize) {
+                *value = before[variable];
+            }
+        }
     }
 }

@@ -48,10 +48,18 @@ pub fn with_row(words: &[u32], at: usize, row: Row) -> Vec<u32> {
 
 /// The table without some rows; the numbers that name rows above them go down.
 pub fn without(words: &[u32], gone: &[bool]) -> Vec<u32> {
+    let below: Vec<u32> = gone
+        .iter()
+        .scan(0, |below, gone| {
+            let here = *below;
+            *below += u32::from(*gone);
+            Some(here)
+        })
+        .collect();
+    let all = gone.iter().filter(|gone| **gone).count() as u32;
     let mut lowered = words.to_vec();
     for place in places(words, is_child) {
-        let below = gone.iter().take(words[place] as usize);
-        lowered[place] -= below.filter(|gone| **gone).count() as u32;
+        lowered[place] -= below.get(words[place] as usize).copied().unwrap_or(all);
     }
     let kept = lowered.chunks(ROW_WORDS).enumerate();
     let kept = kept.filter(|(row, _)| !gone.get(*row).is_some_and(|gone| *gone));
