@@ -25,7 +25,10 @@ pub fn judge(table: &[u32]) -> Judged {
     let mut deep = None;
     for (i, row) in rows.iter().enumerate() {
         if wrong_words(row) {
-            return Judged::Refused { number: 2, row: i as u32 };
+            return Judged::Refused {
+                number: 2,
+                row: i as u32,
+            };
         }
         if children.is_some() {
             continue;
@@ -45,10 +48,16 @@ pub fn judge(table: &[u32]) -> Judged {
     }
     let last = rows.len() - 1;
     if let Some(i) = parents[..last].iter().position(|&places| places != 1) {
-        return Judged::Refused { number: 4, row: i as u32 };
+        return Judged::Refused {
+            number: 4,
+            row: i as u32,
+        };
     }
     if !depths[last].statement {
-        return Judged::Refused { number: 4, row: last as u32 };
+        return Judged::Refused {
+            number: 4,
+            row: last as u32,
+        };
     }
     match deep {
         Some(row) => Judged::Refused { number: 5, row },
@@ -72,7 +81,12 @@ fn wrong_words(row: &[u32; 4]) -> bool {
 }
 
 /// The row's depth from those of its children, which it counts; nothing where a child is not below or of the wrong sort.
-fn depth_of(row: &[u32; 4], i: usize, depths: &[Depth; MOST_ROWS], parents: &mut [u16; MOST_ROWS]) -> Option<Depth> {
+fn depth_of(
+    row: &[u32; 4],
+    i: usize,
+    depths: &[Depth; MOST_ROWS],
+    parents: &mut [u16; MOST_ROWS],
+) -> Option<Depth> {
     let mut child = |word: u32, statement: bool| {
         let at = word as usize;
         if at >= i || depths[at].statement != statement {
@@ -81,8 +95,22 @@ fn depth_of(row: &[u32; 4], i: usize, depths: &[Depth; MOST_ROWS], parents: &mut
         parents[at] += 1;
         Some(depths[at])
     };
-    let statement = |nesting, loops| Some(Depth { height: 0, nesting, loops, statement: true });
-    let expression = |height| Some(Depth { height, nesting: 0, loops: 0, statement: false });
+    let statement = |nesting, loops| {
+        Some(Depth {
+            height: 0,
+            nesting,
+            loops,
+            statement: true,
+        })
+    };
+    let expression = |height| {
+        Some(Depth {
+            height,
+            nesting: 0,
+            loops: 0,
+            statement: false,
+        })
+    };
     match *row {
         [0, ..] => statement(0, 0),
         [1 | 5, _, q, _] => {
@@ -91,12 +119,18 @@ fn depth_of(row: &[u32; 4], i: usize, depths: &[Depth; MOST_ROWS], parents: &mut
         }
         [2, p, q, _] => {
             let (first, second) = (child(p, true)?, child(q, true)?);
-            statement(first.nesting.max(second.nesting), first.loops.max(second.loops))
+            statement(
+                first.nesting.max(second.nesting),
+                first.loops.max(second.loops),
+            )
         }
         [3, p, q, r] => {
             child(p, false)?;
             let (then, otherwise) = (child(q, true)?, child(r, true)?);
-            statement(then.nesting.max(otherwise.nesting).saturating_add(1), then.loops.max(otherwise.loops))
+            statement(
+                then.nesting.max(otherwise.nesting).saturating_add(1),
+                then.loops.max(otherwise.loops),
+            )
         }
         [4, p, q, _] => {
             child(p, false)?;

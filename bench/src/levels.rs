@@ -18,7 +18,11 @@ fn walk(rows: Rows, at: u32, context: bool, marks: u32, lowest: &mut Option<u32>
     match rows[at as usize] {
         [1, variable, expression, _] => {
             let mark = 1 << (variable % 32);
-            if context || provisional(rows, expression, marks) { marks | mark } else { marks & !mark }
+            if context || provisional(rows, expression, marks) {
+                marks | mark
+            } else {
+                marks & !mark
+            }
         }
         [2, first, second, _] => {
             let between = walk(rows, first, context, marks, lowest);
@@ -53,10 +57,16 @@ fn walk(rows: Rows, at: u32, context: bool, marks: u32, lowest: &mut Option<u32>
 
 pub fn check(table: &[u32], marks: u32) -> Advice {
     if let Judged::Refused { number, row } = judge(table) {
-        return Advice { checked: Checked::Refused { number, row }, marks };
+        return Advice {
+            checked: Checked::Refused { number, row },
+            marks,
+        };
     }
     let (rows, _) = table.as_chunks::<4>();
     let mut lowest = None;
     let marks = walk(rows, rows.len() as u32 - 1, false, marks, &mut lowest);
-    Advice { checked: lowest.map_or(Checked::Pass, Checked::Fail), marks }
+    Advice {
+        checked: lowest.map_or(Checked::Pass, Checked::Fail),
+        marks,
+    }
 }

@@ -1,6 +1,7 @@
 //! Prints how long the proved functions take beside Rust written by hand, in one run: the workloads are repeated and the
 //! sides take turns, so that a slow moment of the machine meets them all. Ratios are of the least times.
 
+mod jobs;
 mod judge;
 mod levels;
 mod operate;
@@ -11,6 +12,7 @@ mod workloads;
 
 use buzorinde::{Answer, VARIABLES};
 use std::hint::black_box;
+use std::process::Command;
 use std::time::Instant;
 use workloads::Workload;
 
@@ -23,7 +25,11 @@ struct Times {
 }
 
 /// Times each side, in turns.
-fn measure<const N: usize>(repetitions: usize, times: u32, mut side: impl FnMut(usize)) -> [Times; N] {
+fn measure<const N: usize>(
+    repetitions: usize,
+    times: u32,
+    mut side: impl FnMut(usize),
+) -> [Times; N] {
     let mut taken: [Vec<f64>; N] = std::array::from_fn(|_| Vec::with_capacity(repetitions));
     for _ in 0..repetitions {
         for (i, of_side) in taken.iter_mut().enumerate() {
@@ -36,7 +42,10 @@ fn measure<const N: usize>(repetitions: usize, times: u32, mut side: impl FnMut(
     }
     taken.map(|mut of_side| {
         of_side.sort_by(f64::total_cmp);
-        Times { least: of_side[0], median: of_side[of_side.len() / 2] }
+        Times {
+            least: of_side[0],
+            median: of_side[of_side.len() / 2],
+        }
     })
 }
 
@@ -44,7 +53,13 @@ fn measure<const N: usize>(repetitions: usize, times: u32, mut side: impl FnMut(
 fn whole(run: Run, work: &Workload) -> (Answer, [u32; VARIABLES], Vec<u32>) {
     let mut memory = [0; VARIABLES];
     let mut trace = vec![7; work.trace_words];
-    let answer = run(&work.table, &mut memory, work.marks, work.budget, &mut trace);
+    let answer = run(
+        &work.table,
+        &mut memory,
+        work.marks,
+        work.budget,
+        &mut trace,
+    );
     (answer, memory, trace)
 }
 
@@ -60,18 +75,48 @@ fn compare(work: &Workload) -> u32 {
 
 fn main() {
     let words: Vec<String> = std::env::args().skip(1).collect();
-    let repetitions = words.first().map_or(101, |word| word.parse().expect("a number of repetitions"));
-    let wanted = |name: &str| words.len() < 2 || words[1..].iter().any(|word| name.starts_with(word.as_str()));
+    if words.first().is_some_and(|word| word == jobs::PLAIN) {
+        return jobs::report_input();
+    }
+    let repetitions = words
+        .first()
+        .map_or(101, |word| word.parse().expect("a number of repetitions"));
+    let wanted = |name: &str| {
+        words.len() < 2
+            || words[1..]
+                .iter()
+                .any(|word| name.starts_with(word.as_str()))
+    };
 
-    println!("{:<42} {:>9} {:>9} | {:>8} {:>8} {:>8} | {:>8} {:>8} {:>8}", "", "ratio to", "ratio to", "least", "ns a step", "", "median", "ns a step", "");
-    println!("{:<42} {:>9} {:>9} | {:>8} {:>8} {:>8} | {:>8} {:>8} {:>8}", "run", "watched", "unwatched", "proved", "watched", "unwatched", "proved", "watched", "unwatched");
+    println!(
+        "{:<42} {:>9} {:>9} | {:>8} {:>8} {:>8} | {:>8} {:>8} {:>8}",
+        "", "ratio to", "ratio to", "least", "ns a step", "", "median", "ns a step", ""
+    );
+    println!(
+        "{:<42} {:>9} {:>9} | {:>8} {:>8} {:>8} | {:>8} {:>8} {:>8}",
+        "run",
+        "watched",
+        "unwatched",
+        "proved",
+        "watched",
+        "unwatched",
+        "proved",
+        "watched",
+        "unwatched"
+    );
     for work in workloads::runs().iter().filter(|work| wanted(work.name)) {
         let steps = f64::from(compare(work));
         let sides: [Run; 3] = [buzorinde::run, watched::run, unwatched::run];
         let mut trace = vec![0; work.trace_words];
         let [proved, watched, plain] = measure(repetitions, work.times, |i| {
             let mut memory = [0; VARIABLES];
-            black_box(sides[i](black_box(&work.table), &mut memory, work.marks, work.budget, &mut trace));
+            black_box(sides[i](
+                black_box(&work.table),
+                &mut memory,
+                work.marks,
+                work.budget,
+                &mut trace,
+            ));
         });
         println!(
             "{:<42} {:>9.2} {:>9.2} | {:>8.2} {:>8.2} {:>8.2} | {:>8.2} {:>8.2} {:>8.2}",
@@ -88,45 +133,103 @@ fn main() {
     }
 
     println!();
-    println!("{:<42} {:>9} {:>9} | {:>8} {:>8} {:>8} | {:>8} {:>8}", "", "ratio to", "", "least", "us", "", "median", "us");
-    println!("{:<42} {:>9} {:>9} | {:>8} {:>8} {:>8} | {:>8} {:>8}", "judge and level check", "by hand", "", "proved", "by hand", "", "proved", "by hand");
+    println!(
+        "{:<42} {:>9} {:>9} | {:>8} {:>8} {:>8} | {:>8} {:>8}",
+        "", "ratio to", "", "least", "us", "", "median", "us"
+    );
+    println!(
+        "{:<42} {:>9} {:>9} | {:>8} {:>8} {:>8} | {:>8} {:>8}",
+        "judge, level check and jobs", "by hand", "", "proved", "by hand", "", "proved", "by hand"
+    );
     for (name, table) in workloads::judged().iter().filter(|(name, _)| wanted(name)) {
         assert_eq!(buzorinde::judge(table), judge::judge(table), "{name}");
         let times = measure(repetitions, 100, |i| {
             let table = black_box(table.as_slice());
-            black_box(if i == 0 { buzorinde::judge(table) } else { judge::judge(table) });
+            black_box(if i == 0 {
+                buzorinde::judge(table)
+            } else {
+                judge::judge(table)
+            });
         });
         print_pair(name, times);
     }
-    for (name, table, times) in workloads::checked().iter().filter(|(name, ..)| wanted(name)) {
-        assert_eq!(buzorinde::check(table, 1), levels::check(table, 1), "{name}");
+    for (name, table, times) in workloads::checked()
+        .iter()
+        .filter(|(name, ..)| wanted(name))
+    {
+        assert_eq!(
+            buzorinde::check(table, 1),
+            levels::check(table, 1),
+            "{name}"
+        );
         let times = measure(repetitions, *times, |i| {
             let table = black_box(table.as_slice());
-            black_box(if i == 0 { buzorinde::check(table, 1) } else { levels::check(table, 1) });
+            black_box(if i == 0 {
+                buzorinde::check(table, 1)
+            } else {
+                levels::check(table, 1)
+            });
         });
         print_pair(name, times);
+    }
+    for work in workloads::jobs().iter().filter(|work| wanted(work.name)) {
+        print_job(repetitions, work);
     }
     if words.len() < 2 {
         print_growth(repetitions);
     }
 }
 
+/// A line for a job: each side is a program that is started, given the job, and read to its end.
+fn print_job(repetitions: usize, work: &Workload) {
+    let job = jobs::text(work);
+    let plain = std::env::current_exe().expect("the benchmark has a path");
+    let answer = |i| match i {
+        0 => jobs::answer(&mut Command::new("target/bin/watch"), &job),
+        _ => jobs::answer(Command::new(&plain).arg(jobs::PLAIN), &job),
+    };
+    assert_eq!(answer(0), answer(1), "{}", work.name);
+    let times = measure(repetitions, work.times, |i| {
+        black_box(answer(i));
+    });
+    print_pair(work.name, times);
+}
+
 /// How the proved run grows with its steps, and the proved judge with its rows.
 fn print_growth(repetitions: usize) {
     println!();
-    println!("{:<42} {:>12} {:>12}", "how it grows", "least, ns", "ns for each");
+    println!(
+        "{:<42} {:>12} {:>12}",
+        "how it grows", "least, ns", "ns for each"
+    );
     for work in workloads::longer_runs() {
         let [proved] = measure(repetitions, work.times, |_| {
-            black_box(buzorinde::run(black_box(&work.table), &mut [0; VARIABLES], work.marks, work.budget, &mut []));
+            black_box(buzorinde::run(
+                black_box(&work.table),
+                &mut [0; VARIABLES],
+                work.marks,
+                work.budget,
+                &mut [],
+            ));
         });
-        println!("{:<42} {:>12.0} {:>12.2}", format!("{}, {} steps", work.name, work.budget), proved.least, proved.least / f64::from(work.budget));
+        println!(
+            "{:<42} {:>12.0} {:>12.2}",
+            format!("{}, {} steps", work.name, work.budget),
+            proved.least,
+            proved.least / f64::from(work.budget)
+        );
     }
     for table in workloads::longer_tables() {
         let rows = table.len() / 4;
         let [proved] = measure(repetitions, 100, |_| {
             black_box(buzorinde::judge(black_box(&table)));
         });
-        println!("{:<42} {:>12.0} {:>12.2}", format!("judge, {rows} rows"), proved.least, proved.least / rows as f64);
+        println!(
+            "{:<42} {:>12.0} {:>12.2}",
+            format!("judge, {rows} rows"),
+            proved.least,
+            proved.least / rows as f64
+        );
     }
 }
 

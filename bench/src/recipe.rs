@@ -71,7 +71,8 @@ impl Recipe {
     /// Statements one after the other, as sequences that lean to the left.
     pub fn all(&mut self, statements: &[u32]) -> u32 {
         let (&first, rest) = statements.split_first().expect("a statement");
-        rest.iter().fold(first, |before, &next| self.sequence(before, next))
+        rest.iter()
+            .fold(first, |before, &next| self.sequence(before, next))
     }
 
     pub fn table(self) -> Vec<u32> {

@@ -13,13 +13,28 @@ fn evaluate(rows: Rows, at: u32, memory: &[u32; VARIABLES]) -> u32 {
     match rows[at as usize] {
         [8, value, _, _] => value,
         [9, variable, _, _] => memory[variable as usize % VARIABLES],
-        [_, operator, left, right] => operate(operator, evaluate(rows, left, memory), evaluate(rows, right, memory)),
+        [_, operator, left, right] => operate(
+            operator,
+            evaluate(rows, left, memory),
+            evaluate(rows, right, memory),
+        ),
     }
 }
 
-pub fn run(table: &[u32], memory: &mut [u32; VARIABLES], given: u32, budget: u32, trace: &mut [u32]) -> Answer {
+pub fn run(
+    table: &[u32],
+    memory: &mut [u32; VARIABLES],
+    given: u32,
+    budget: u32,
+    trace: &mut [u32],
+) -> Answer {
     if let Judged::Refused { number, row } = judge(table) {
-        return Answer { ended: Ended::Refused { number, row }, steps: 0, records: 0, marks: given };
+        return Answer {
+            ended: Ended::Refused { number, row },
+            steps: 0,
+            records: 0,
+            marks: given,
+        };
     }
     let (rows, _) = table.as_chunks::<4>();
     let mut pending: Vec<u32> = Vec::with_capacity(1025);
@@ -44,10 +59,16 @@ pub fn run(table: &[u32], memory: &mut [u32; VARIABLES], given: u32, budget: u32
             at = first;
         }
         match rows[at as usize] {
-            [1, variable, expression, _] => memory[variable as usize % VARIABLES] = evaluate(rows, expression, memory),
+            [1, variable, expression, _] => {
+                memory[variable as usize % VARIABLES] = evaluate(rows, expression, memory)
+            }
             [3, test, then, otherwise] => {
                 pending.push(CLOSE);
-                pending.push(if evaluate(rows, test, memory) != 0 { then } else { otherwise });
+                pending.push(if evaluate(rows, test, memory) != 0 {
+                    then
+                } else {
+                    otherwise
+                });
             }
             [4, test, body, _] => {
                 if evaluate(rows, test, memory) != 0 {
@@ -70,5 +91,10 @@ pub fn run(table: &[u32], memory: &mut [u32; VARIABLES], given: u32, budget: u32
             _ => {}
         }
     };
-    Answer { ended, steps, records: records as u32, marks: given }
+    Answer {
+        ended,
+        steps,
+        records: records as u32,
+        marks: given,
+    }
 }

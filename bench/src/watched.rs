@@ -13,7 +13,10 @@ const CLOSE: u32 = u32::MAX;
 fn evaluate(rows: Rows, at: u32, memory: &[u32; VARIABLES], marks: u32) -> (u32, u32) {
     match rows[at as usize] {
         [8, value, _, _] => (value, 0),
-        [9, variable, _, _] => (memory[variable as usize % VARIABLES], marks & (1 << (variable % 32))),
+        [9, variable, _, _] => (
+            memory[variable as usize % VARIABLES],
+            marks & (1 << (variable % 32)),
+        ),
         [_, operator, left, right] => {
             let (a, x) = evaluate(rows, left, memory, marks);
             let (b, y) = evaluate(rows, right, memory, marks);
@@ -32,8 +35,19 @@ fn may_assign(rows: Rows, at: u32) -> u32 {
     }
 }
 
-pub fn run(table: &[u32], memory: &mut [u32; VARIABLES], given: u32, budget: u32, trace: &mut [u32]) -> Answer {
-    let refused = |number, row| Answer { ended: Ended::Refused { number, row }, steps: 0, records: 0, marks: given };
+pub fn run(
+    table: &[u32],
+    memory: &mut [u32; VARIABLES],
+    given: u32,
+    budget: u32,
+    trace: &mut [u32],
+) -> Answer {
+    let refused = |number, row| Answer {
+        ended: Ended::Refused { number, row },
+        steps: 0,
+        records: 0,
+        marks: given,
+    };
     if let Judged::Refused { number, row } = judge(table) {
         return refused(number, row);
     }
@@ -70,11 +84,19 @@ pub fn run(table: &[u32], memory: &mut [u32; VARIABLES], given: u32, budget: u32
                 let (value, level) = evaluate(rows, expression, memory, marks);
                 memory[variable as usize % VARIABLES] = value;
                 let mark = 1 << (variable % 32);
-                marks = if level != 0 || !pile.is_empty() { marks | mark } else { marks & !mark };
+                marks = if level != 0 || !pile.is_empty() {
+                    marks | mark
+                } else {
+                    marks & !mark
+                };
             }
             [3, test, then, otherwise] => {
                 let (value, level) = evaluate(rows, test, memory, marks);
-                let (taken, other) = if value != 0 { (then, otherwise) } else { (otherwise, then) };
+                let (taken, other) = if value != 0 {
+                    (then, otherwise)
+                } else {
+                    (otherwise, then)
+                };
                 pending.push(CLOSE);
                 pending.push(taken);
                 if level != 0 || !pile.is_empty() {
@@ -113,5 +135,10 @@ pub fn run(table: &[u32], memory: &mut [u32; VARIABLES], given: u32, budget: u32
         }
         steps += 1;
     };
-    Answer { ended, steps, records: records as u32, marks }
+    Answer {
+        ended,
+        steps,
+        records: records as u32,
+        marks,
+    }
 }

@@ -22,7 +22,14 @@ const STEPS: u32 = 60_000;
 const LONGEST: u32 = 171;
 
 fn long(name: &'static str, table: Vec<u32>, marks: u32) -> Workload {
-    Workload { name, table, marks, budget: STEPS, trace_words: 0, times: 1 }
+    Workload {
+        name,
+        table,
+        marks,
+        budget: STEPS,
+        trace_words: 0,
+        times: 1,
+    }
 }
 
 fn counting() -> Vec<u32> {
@@ -167,10 +174,35 @@ pub fn runs() -> Vec<Workload> {
         long("full tree of 63 nodes, settled", evaluating(full), 0),
         long("if in a settled loop", branching(), 0),
         long("if in a provisional loop", branching(), 1),
-        long("provisional if, 100 assignments untaken", untaken(), provisional),
-        Workload { name: "8,192 outputs", table: outputs(), marks: 0, budget: STEPS, trace_words: 16384, times: 2 },
-        Workload { name: "512-row sequence, once", table: sequence(LONGEST), marks: 0, budget: STEPS, trace_words: 0, times: 100 },
-        Workload { name: "5 rows, two outputs, once", table: short(), marks: 2, budget: 10, trace_words: 4, times: 4000 },
+        long(
+            "provisional if, 100 assignments untaken",
+            untaken(),
+            provisional,
+        ),
+        Workload {
+            name: "8,192 outputs",
+            table: outputs(),
+            marks: 0,
+            budget: STEPS,
+            trace_words: 16384,
+            times: 2,
+        },
+        Workload {
+            name: "512-row sequence, once",
+            table: sequence(LONGEST),
+            marks: 0,
+            budget: STEPS,
+            trace_words: 0,
+            times: 100,
+        },
+        Workload {
+            name: "5 rows, two outputs, once",
+            table: short(),
+            marks: 2,
+            budget: 10,
+            trace_words: 4,
+            times: 4000,
+        },
     ]
 }
 
@@ -204,10 +236,39 @@ fn rounds() -> Vec<u32> {
     r.table()
 }
 
+/// Jobs that are read, run and reported.
+pub fn jobs() -> Vec<Workload> {
+    vec![
+        Workload {
+            name: "job to report, 512 rows",
+            table: sequence(LONGEST),
+            marks: 0,
+            budget: STEPS,
+            trace_words: 0,
+            times: 10,
+        },
+        Workload {
+            name: "job to report, 8,192 records",
+            table: outputs(),
+            marks: 0,
+            budget: STEPS,
+            trace_words: 16384,
+            times: 10,
+        },
+    ]
+}
+
 /// The settled counting loop with budgets that grow.
 pub fn longer_runs() -> Vec<Workload> {
     [100, 10_000, 100_000]
-        .map(|budget| Workload { name: "settled counting loop", table: counting(), marks: 0, budget, trace_words: 0, times: 100_000 / budget })
+        .map(|budget| Workload {
+            name: "settled counting loop",
+            table: counting(),
+            marks: 0,
+            budget,
+            trace_words: 0,
+            times: 100_000 / budget,
+        })
         .into()
 }
 
@@ -218,13 +279,20 @@ pub fn longer_tables() -> Vec<Vec<u32>> {
 
 /// The tables that are judged.
 pub fn judged() -> Vec<(&'static str, Vec<u32>)> {
-    vec![("judge 512 rows of assignments", sequence(LONGEST)), ("judge 512 rows of expressions", expressions())]
+    vec![
+        ("judge 512 rows of assignments", sequence(LONGEST)),
+        ("judge 512 rows of expressions", expressions()),
+    ]
 }
 
 /// The tables whose levels are checked, from v0 marked, and how often in one measurement.
 pub fn checked() -> Vec<(&'static str, Vec<u32>, u32)> {
     vec![
-        ("level check, 512 rows of assignments", sequence(LONGEST), 50),
+        (
+            "level check, 512 rows of assignments",
+            sequence(LONGEST),
+            50,
+        ),
         ("level check, 512 rows of expressions", expressions(), 50),
         ("level check, three loops of many rounds", rounds(), 1),
     ]

@@ -6,9 +6,20 @@
 /// The functions for C as they are, for callers that lend buffers of any length.
 pub mod library {
     extern "C" {
-        pub fn buzorinde_judge(table: *const u32, table_words: usize, answer: *mut u32, answer_words: usize) -> u32;
+        pub fn buzorinde_judge(
+            table: *const u32,
+            table_words: usize,
+            answer: *mut u32,
+            answer_words: usize,
+        ) -> u32;
 
-        pub fn buzorinde_check(table: *const u32, table_words: usize, marks: u32, answer: *mut u32, answer_words: usize) -> u32;
+        pub fn buzorinde_check(
+            table: *const u32,
+            table_words: usize,
+            marks: u32,
+            answer: *mut u32,
+            answer_words: usize,
+        ) -> u32;
 
         pub fn buzorinde_run(
             table: *const u32,
@@ -79,7 +90,14 @@ pub struct Answer {
 pub fn judge(table: &[u32]) -> Judged {
     let mut answer = [0; JUDGE_WORDS];
     // SAFETY: each pointer comes from a slice with its length, and only `answer` is written.
-    let status = unsafe { library::buzorinde_judge(table.as_ptr(), table.len(), answer.as_mut_ptr(), answer.len()) };
+    let status = unsafe {
+        library::buzorinde_judge(
+            table.as_ptr(),
+            table.len(),
+            answer.as_mut_ptr(),
+            answer.len(),
+        )
+    };
     debug_assert_eq!(status, 0);
     match answer {
         [0, ..] => Judged::Accepted,
@@ -91,7 +109,15 @@ pub fn judge(table: &[u32]) -> Judged {
 pub fn check(table: &[u32], marks: u32) -> Advice {
     let mut answer = [0; CHECK_WORDS];
     // SAFETY: each pointer comes from a slice with its length, and only `answer` is written.
-    let status = unsafe { library::buzorinde_check(table.as_ptr(), table.len(), marks, answer.as_mut_ptr(), answer.len()) };
+    let status = unsafe {
+        library::buzorinde_check(
+            table.as_ptr(),
+            table.len(),
+            marks,
+            answer.as_mut_ptr(),
+            answer.len(),
+        )
+    };
     debug_assert_eq!(status, 0);
     let [refusal, verdict, row, marks] = answer;
     let checked = match (refusal, verdict) {
@@ -104,7 +130,13 @@ pub fn check(table: &[u32], marks: u32) -> Advice {
 
 /// Runs the recipe of a table under the monitor, within a budget of steps and the room that the trace has. Memory and trace
 /// are as they are reached; a refused run has changed neither.
-pub fn run(table: &[u32], memory: &mut [u32; VARIABLES], marks: u32, budget: u32, trace: &mut [u32]) -> Answer {
+pub fn run(
+    table: &[u32],
+    memory: &mut [u32; VARIABLES],
+    marks: u32,
+    budget: u32,
+    trace: &mut [u32],
+) -> Answer {
     let mut answer = [0; RUN_WORDS];
     // SAFETY: each pointer comes from a slice with its length, and no two of those that are written are the same.
     let status = unsafe {
@@ -130,5 +162,10 @@ pub fn run(table: &[u32], memory: &mut [u32; VARIABLES], marks: u32, budget: u32
         (0, _) => Ended::NoRoom(row),
         (number, _) => Ended::Refused { number, row },
     };
-    Answer { ended, steps, records, marks }
+    Answer {
+        ended,
+        steps,
+        records,
+        marks,
+    }
 }

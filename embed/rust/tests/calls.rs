@@ -19,20 +19,43 @@ fn the_whole_case() {
     let mut words = memory(&[7, 9]);
     let mut trace = [5; 6];
     let answer = run(&WHOLE, &mut words, 2, 10, &mut trace);
-    assert_eq!(answer, Answer { ended: Ended::Done, steps: 2, records: 2, marks: 2 });
+    assert_eq!(
+        answer,
+        Answer {
+            ended: Ended::Done,
+            steps: 2,
+            records: 2,
+            marks: 2
+        }
+    );
     assert_eq!(words, memory(&[7, 9]));
     assert_eq!(trace, [0, 7, 1, 9, 5, 5]);
 }
 
 #[test]
 fn each_verdict() {
-    let ended = |table: &[u32], marks, budget, words: usize| run(table, &mut memory(&[7, 9]), marks, budget, &mut vec![0; words]).ended;
+    let ended = |table: &[u32], marks, budget, words: usize| {
+        run(
+            table,
+            &mut memory(&[7, 9]),
+            marks,
+            budget,
+            &mut vec![0; words],
+        )
+        .ended
+    };
     assert_eq!(ended(&WHOLE, 2, 2, 4), Ended::Done);
     assert_eq!(ended(&B, 1, 100, 0), Ended::Stopped(3));
     assert_eq!(ended(&WHOLE, 2, 1, 4), Ended::Spent);
     assert_eq!(ended(&WHOLE, 2, 10, 3), Ended::NoRoom(3));
-    assert_eq!(ended(&WHOLE[..19], 2, 10, 4), Ended::Refused { number: 1, row: 0 });
-    assert_eq!(ended(&WHOLE, 2, 10, 16385), Ended::Refused { number: 6, row: 0 });
+    assert_eq!(
+        ended(&WHOLE[..19], 2, 10, 4),
+        Ended::Refused { number: 1, row: 0 }
+    );
+    assert_eq!(
+        ended(&WHOLE, 2, 10, 16385),
+        Ended::Refused { number: 6, row: 0 }
+    );
 }
 
 #[test]
@@ -41,7 +64,15 @@ fn an_assignment_is_in_the_memory_afterwards() {
     let table = [9, 1, 0, 0, 9, 1, 0, 0, 10, 2, 0, 1, 1, 3, 2, 0];
     let mut words = memory(&[7, 9]);
     let answer = run(&table, &mut words, 2, 10, &mut []);
-    assert_eq!(answer, Answer { ended: Ended::Done, steps: 1, records: 0, marks: 10 });
+    assert_eq!(
+        answer,
+        Answer {
+            ended: Ended::Done,
+            steps: 1,
+            records: 0,
+            marks: 10
+        }
+    );
     assert_eq!(words, memory(&[7, 9, 0, 81]));
 }
 
@@ -49,15 +80,42 @@ fn an_assignment_is_in_the_memory_afterwards() {
 fn the_judge() {
     assert_eq!(judge(&WHOLE), Judged::Accepted);
     assert_eq!(judge(&[]), Judged::Refused { number: 1, row: 0 });
-    assert_eq!(judge(&[0, 0, 0, 0, 7, 0, 0, 0]), Judged::Refused { number: 2, row: 1 });
+    assert_eq!(
+        judge(&[0, 0, 0, 0, 7, 0, 0, 0]),
+        Judged::Refused { number: 2, row: 1 }
+    );
 }
 
 #[test]
 fn the_level_check() {
-    assert_eq!(check(&WHOLE, 2), Advice { checked: Checked::Pass, marks: 2 });
-    assert_eq!(check(&B, 1), Advice { checked: Checked::Fail(3), marks: 1 });
-    assert_eq!(check(&WHOLE[..19], 7), Advice { checked: Checked::Refused { number: 1, row: 0 }, marks: 7 });
+    assert_eq!(
+        check(&WHOLE, 2),
+        Advice {
+            checked: Checked::Pass,
+            marks: 2
+        }
+    );
+    assert_eq!(
+        check(&B, 1),
+        Advice {
+            checked: Checked::Fail(3),
+            marks: 1
+        }
+    );
+    assert_eq!(
+        check(&WHOLE[..19], 7),
+        Advice {
+            checked: Checked::Refused { number: 1, row: 0 },
+            marks: 7
+        }
+    );
     // v1 := v0 while v0 is provisional, then v1 is marked
     let table = [9, 0, 0, 0, 1, 1, 0, 0];
-    assert_eq!(check(&table, 1), Advice { checked: Checked::Pass, marks: 3 });
+    assert_eq!(
+        check(&table, 1),
+        Advice {
+            checked: Checked::Pass,
+            marks: 3
+        }
+    );
 }
