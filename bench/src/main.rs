@@ -60,7 +60,7 @@ fn compare(work: &Workload) -> u32 {
 
 fn main() {
     let words: Vec<String> = std::env::args().skip(1).collect();
-    let repetitions = words.first().map_or(25, |word| word.parse().expect("a number of repetitions"));
+    let repetitions = words.first().map_or(101, |word| word.parse().expect("a number of repetitions"));
     let wanted = |name: &str| words.len() < 2 || words[1..].iter().any(|word| name.starts_with(word.as_str()));
 
     println!("{:<42} {:>9} {:>9} | {:>8} {:>8} {:>8} | {:>8} {:>8} {:>8}", "", "ratio to", "ratio to", "least", "ns a step", "", "median", "ns a step", "");
@@ -92,7 +92,7 @@ fn main() {
     println!("{:<42} {:>9} {:>9} | {:>8} {:>8} {:>8} | {:>8} {:>8}", "judge and level check", "by hand", "", "proved", "by hand", "", "proved", "by hand");
     for (name, table) in workloads::judged().iter().filter(|(name, _)| wanted(name)) {
         assert_eq!(buzorinde::judge(table), judge::judge(table), "{name}");
-        let times = measure(repetitions, 1000, |i| {
+        let times = measure(repetitions, 100, |i| {
             let table = black_box(table.as_slice());
             black_box(if i == 0 { buzorinde::judge(table) } else { judge::judge(table) });
         });
@@ -123,7 +123,7 @@ fn print_growth(repetitions: usize) {
     }
     for table in workloads::longer_tables() {
         let rows = table.len() / 4;
-        let [proved] = measure(repetitions, 1000, |_| {
+        let [proved] = measure(repetitions, 100, |_| {
             black_box(buzorinde::judge(black_box(&table)));
         });
         println!("{:<42} {:>12.0} {:>12.2}", format!("judge, {rows} rows"), proved.least, proved.least / rows as f64);

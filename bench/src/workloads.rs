@@ -16,7 +16,7 @@ pub struct Workload {
 const COUNTER: u32 = 0;
 const PROVISIONAL: u32 = 1;
 
-const STEPS: u32 = 400_000;
+const STEPS: u32 = 60_000;
 
 /// As many assignments as 512 rows hold.
 const LONGEST: u32 = 171;
@@ -168,9 +168,9 @@ pub fn runs() -> Vec<Workload> {
         long("if in a settled loop", branching(), 0),
         long("if in a provisional loop", branching(), 1),
         long("provisional if, 100 assignments untaken", untaken(), provisional),
-        Workload { name: "8,192 outputs", table: outputs(), marks: 0, budget: STEPS, trace_words: 16384, times: 10 },
-        Workload { name: "512-row sequence, once", table: sequence(LONGEST), marks: 0, budget: STEPS, trace_words: 0, times: 1000 },
-        Workload { name: "5 rows, two outputs, once", table: short(), marks: 2, budget: 10, trace_words: 4, times: 20000 },
+        Workload { name: "8,192 outputs", table: outputs(), marks: 0, budget: STEPS, trace_words: 16384, times: 2 },
+        Workload { name: "512-row sequence, once", table: sequence(LONGEST), marks: 0, budget: STEPS, trace_words: 0, times: 100 },
+        Workload { name: "5 rows, two outputs, once", table: short(), marks: 2, budget: 10, trace_words: 4, times: 4000 },
     ]
 }
 
@@ -206,8 +206,8 @@ fn rounds() -> Vec<u32> {
 
 /// The settled counting loop with budgets that grow.
 pub fn longer_runs() -> Vec<Workload> {
-    [100, 10_000, 1_000_000]
-        .map(|budget| Workload { name: "settled counting loop", table: counting(), marks: 0, budget, trace_words: 0, times: 1_000_000 / budget })
+    [100, 10_000, 100_000]
+        .map(|budget| Workload { name: "settled counting loop", table: counting(), marks: 0, budget, trace_words: 0, times: 100_000 / budget })
         .into()
 }
 
@@ -224,8 +224,8 @@ pub fn judged() -> Vec<(&'static str, Vec<u32>)> {
 /// The tables whose levels are checked, from v0 marked, and how often in one measurement.
 pub fn checked() -> Vec<(&'static str, Vec<u32>, u32)> {
     vec![
-        ("level check, 512 rows of assignments", sequence(LONGEST), 1000),
-        ("level check, 512 rows of expressions", expressions(), 1000),
+        ("level check, 512 rows of assignments", sequence(LONGEST), 50),
+        ("level check, 512 rows of expressions", expressions(), 50),
         ("level check, three loops of many rounds", rounds(), 1),
     ]
 }

@@ -1,5 +1,9 @@
 // A job's bytes to its report's bytes: the job is read, run under the monitor, and its report written.
+use job::MOST_ROOM;
 use job::Read;
+use report::RECORD_BYTES;
+use report::RECORD_WORDS;
+use report::RUN_BYTES;
 use report::Wrote;
 use rules::Marks;
 use rules::Memory;
@@ -14,14 +18,10 @@ ghost use Rattle.report.specs.Reports.{report};
 ghost use Rattle.report.specs.Written.{placedIn};
 ghost use Rattle.desk.specs.Desk.{mostReport, jobReport};
 
-// The most bytes of a job, "32,768 bytes"; and of a report: that of a run with 8,192 records.
-pub const JOB_BYTES: usize = 32768;
+// The words of the most records that a job has room for, and the bytes of their report, the longest one.
+const TRACE_WORDS: usize = RECORD_WORDS * MOST_ROOM as usize;
 
-pub const REPORT_BYTES: usize = 213456;
-
-const RECORD_WORDS: usize = 2;
-
-const TRACE_WORDS: usize = 16384;
+pub const REPORT_BYTES: usize = RUN_BYTES + RECORD_BYTES * MOST_ROOM as usize;
 
 // Runs a table with this trace, and writes the report.
 fn report_traced(

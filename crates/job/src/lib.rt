@@ -19,11 +19,11 @@ ghost use Rattle.job.specs.Jobs.{untold, inLine, rowLine, readTable, rea
 ghost use Rattle.job.specs.Read.{keySaid, fieldSaid, lineSaid, rowSaid, LinesRead, filled, reading};
 
 // Document 01's numbers of a job, as `specs/Limits` has them.
-const MOST_BYTES: usize = 32768;
+pub const MOST_BYTES: usize = 32768;
 
 const MOST_WORD: u64 = 4294967295;
 
-const MOST_ROOM: u64 = 8192;
+pub const MOST_ROOM: u64 = 8192;
 
 const TABLE_WORDS: usize = MOST_ROWS * ROW_WORDS;
 

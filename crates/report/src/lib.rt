@@ -15,12 +15,12 @@ ghost use Rattle.report.specs.Written.{Placed, mostField, mostLine, most
 // The most bytes of a refusal's report; of a run's report but for its records; and of a record.
 const REFUSAL_BYTES: usize = 33;
 
-const RUN_BYTES: usize = 464;
+pub const RUN_BYTES: usize = 464;
 
-const RECORD_BYTES: usize = 26;
+pub const RECORD_BYTES: usize = 26;
 
 // The words of a record.
-const RECORD_WORDS: usize = 2;
+pub const RECORD_WORDS: usize = 2;
 
 // How a report was written: so many bytes; not, for the buffer is too short for the longest such report; or not, for the trace
 // lacks records that the answer counts.

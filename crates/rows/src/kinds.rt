@@ -2,9 +2,7 @@
 use rules::Kind;
 use rules::Role;
 use rules::Roles;
-ghost use denote.Enum.Declared.{tagOf};
 ghost use mathlib.Core.Path.{_≡_};
-ghost use Rattle.rules.proofs.Kind.{the-type};
 ghost use Rattle.rules.specs.Rows.{kindOf, rolesOf, isStatement, isExpression};
 
 // "Which word is a variable, a row or a constant is fixed for each kind": by the kind's place in `Kind`.
@@ -89,29 +87,24 @@ pub fn kind_of(word: u32) -> Kind
     }
 }
 
-// The kind's place in `Kind`, by which the table of roles is read.
-fn place_of(kind: Kind) -> usize
-    ensures { λ r. ⌜ r ≡ tagOf the-type kind ⌝ }
-{
-    match kind {
-        Kind::Skip => 0,
-        Kind::Assign => 1,
-        Kind::Sequence => 2,
-        Kind::If => 3,
-        Kind::While => 4,
-        Kind::Output => 5,
-        Kind::Constant => 6,
-        Kind::Variable => 7,
-        Kind::Binary => 8,
-        Kind::Unknown => 9,
-    }
-}
-
-// What each of the three words is in a row of the kind.
+// What each of the three words is in a row of the kind: the table is read at the kind's place. A place that is written out
+// lets the compiler read the table; one that is computed has it put together for every row.
 pub fn roles_of(kind: Kind) -> Roles
     ensures { λ r. ⌜ r ≡ rolesOf kind ⌝ }
 {
-    ROLES[place_of(kind)]
+    let by_kind = ROLES;
+    match kind {
+        Kind::Skip => by_kind[0],
+        Kind::Assign => by_kind[1],
+        Kind::Sequence => by_kind[2],
+        Kind::If => by_kind[3],
+        Kind::While => by_kind[4],
+        Kind::Output => by_kind[5],
+        Kind::Constant => by_kind[6],
+        Kind::Variable => by_kind[7],
+        Kind::Binary => by_kind[8],
+        Kind::Unknown => by_kind[9],
+    }
 }
 
 // Whether a row of the kind is a statement.

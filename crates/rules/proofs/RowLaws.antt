@@ -122,18 +122,6 @@ roles-law Kind.Variable none = refl
 roles-law Kind.Binary none = refl
 roles-law Kind.Unknown none = refl
 
-pub place-within : (kind : Kind) → tagOf kind-type.the-type kind < 10
-place-within Kind.Skip = omega arith
-place-within Kind.Assign = omega arith
-place-within Kind.Sequence = omega arith
-place-within Kind.If = omega arith
-place-within Kind.While = omega arith
-place-within Kind.Output = omega arith
-place-within Kind.Constant = omega arith
-place-within Kind.Variable = omega arith
-place-within Kind.Binary = omega arith
-place-within Kind.Unknown = omega arith
-
 -- the table of kinds by its numbers
 pub kinds-law :
     (kindOf 0 ≡ Kind.Skip)

@@ -6,10 +6,10 @@ use report::Wrote;
 use streams::Moved;
 
 // One byte more than a job may have, so that a longer one is seen to be too long.
-const TEXT_BYTES: usize = desk::JOB_BYTES + 1;
+const TEXT_BYTES: usize = job::MOST_BYTES + 1;
 
-// Writes the report of a job's bytes.
-fn report(text: &[u8]) {
+// Answers a job's bytes with its report.
+fn answer(text: &[u8]) {
     let mut out = [0u8; desk::REPORT_BYTES];
     let wrote = desk::answer_job(text, &mut out);
     // such a buffer has room for every report
@@ -28,5 +28,5 @@ fn main() {
         os::fail(b"watch: cannot read the job");
         return;
     };
-    report(&text[..count]);
+    answer(&text[..count]);
 }

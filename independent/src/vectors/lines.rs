@@ -209,6 +209,10 @@ fn tables() -> Vec<Vector> {
         ),
         Vector::job("2-in-a-row", with(&[(8, "row=6,0,0,0")])),
         Vector::job("3-in-a-row", with(&[(9, "row=5,0,1,0")])),
+        Vector::job(
+            "3-for-a-child-beyond-the-table",
+            with(&[(9, "row=5,0,900,0")]),
+        ),
         Vector::job("4-in-a-row", with(&[(12, "row=2,1,1,0")])),
     ]
 }

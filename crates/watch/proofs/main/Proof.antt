@@ -32,11 +32,11 @@ array-share-prefix-text c =
     let at-read-all = c .before .before .before .before in
     moved-few (c .before .got .given .1) (at-read-all .read-all .ensures)
 
-slice-aggregate-report : tie.Need-slice-aggregate-report
-slice-aggregate-report c = sym (length-take-le _ _ (array-share-prefix-text (c .before)))
+slice-aggregate-answer : tie.Need-slice-aggregate-answer
+slice-aggregate-answer c = sym (length-take-le _ _ (array-share-prefix-text (c .before)))
 
-report-requires : tie.Need-report-requires
-report-requires c κs = search needs
+answer-requires : tie.Need-answer-requires
+answer-requires c κs = search needs
 
 returns-2 : tie.Need-returns-2
 returns-2 c = search needs
@@ -53,6 +53,6 @@ main-spec =
     fail-requires
     returns
     array-share-prefix-text
-    slice-aggregate-report
-    report-requires
+    slice-aggregate-answer
+    answer-requires
     returns-2)

@@ -1,11 +1,11 @@
--- `watch::report` is safe and ends. Assumes nothing.
+-- `watch::answer` is safe and ends. Assumes nothing.
 use mathlib.Core.Path.{sym}
 use borrow.Table.Elements.{length-take-le}
 use Rattle.report.proofs.ReportLaws.{written-within}
 use Rattle.desk.specs.Desk.{mostReport}
 use borrow.Author.Needs.{needs}
-use Rattle.watch.proofs.report.Statement.{statement}
-use Rattle.watch.proofs.report.Tie as tie
+use Rattle.watch.proofs.answer.Statement.{statement}
+use Rattle.watch.proofs.answer.Tie as tie
 
 slice-aggregate-answer-job : tie.Need-slice-aggregate-answer-job
 slice-aggregate-answer-job c = search needs
@@ -42,8 +42,8 @@ returns-2 c = search needs
 returns-3 : tie.Need-returns-3
 returns-3 c = search needs
 
-pub report-spec : {M : Type 1} → statement M
-report-spec =
+pub answer-spec : {M : Type 1} → statement M
+answer-spec =
     tie.close
     (tie.spec
     slice-aggregate-answer-job
