@@ -14,11 +14,11 @@ ghost use Rattle.rules.specs.LevelRules.{under};
 ghost use Rattle.rules.specs.Sound.{Sound};
 
 // Whether the expression at a row is provisional. Its right side is looked at only where its left side is settled.
-fn is_provisional(table: &[u32], row: u32, marks: Marks) -> bool
-    requires { ⌜ Sound (rowsOf (now table)) × (row < length (rowsOf (now table))) ⌝ }
-    ensures { λ r. ⌜ r ≡ provisional (level marks (exprAt (rowsOf (now (table .entry))) row)) ⌝ }
+fn is_provisional(table: &&[u32], row: u32, marks: Marks) -> bool
+    requires { ⌜ Sound (rowsOf (now (now table))) × (row < length (rowsOf (now (now table)))) ⌝ }
+    ensures { λ r. ⌜ r ≡ provisional (level marks (exprAt (rowsOf (now (now (table .entry)))) row)) ⌝ }
 {
-    let here = read_row(table, row);
+    let here = read_row(*table, row);
     let kind = here.kind;
     match kind {
         Kind::Variable => has_mark(marks, here.p),
@@ -33,9 +33,9 @@ fn is_provisional(table: &[u32], row: u32, marks: Marks) -> bool
 }
 
 // Whether the expression at a row, or the context, is provisional.
-pub fn is_guarded(table: &[u32], row: u32, context: bool, marks: Marks) -> bool
-    requires { ⌜ Sound (rowsOf (now table)) × (row < length (rowsOf (now table))) ⌝ }
-    ensures { λ r. ⌜ r ≡ under (exprAt (rowsOf (now (table .entry))) row) context marks ⌝ }
+pub fn is_guarded(table: &&[u32], row: u32, context: bool, marks: Marks) -> bool
+    requires { ⌜ Sound (rowsOf (now (now table))) × (row < length (rowsOf (now (now table)))) ⌝ }
+    ensures { λ r. ⌜ r ≡ under (exprAt (rowsOf (now (now (table .entry)))) row) context marks ⌝ }
 {
     if context {
         return true;

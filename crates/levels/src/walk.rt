@@ -42,9 +42,16 @@ fn lower(a: u32, b: u32) -> u32
 }
 
 // Where an output fails: "if it is on channel 0 and its expression or context is provisional".
-fn failing_at(table: &[u32], row: u32, channel: u32, shown: u32, context: bool, marks: Marks) -> u32
-    requires { ⌜ Sound (rowsOf (now table)) × (row < length (rowsOf (now table))) × (shown < length (rowsOf (now table))) ⌝ }
-    ensures { λ r. ⌜ r ≡ failedAt (eqb channel 0 && under (exprAt (rowsOf (now (table .entry))) shown) context marks) row ⌝ }
+fn failing_at(
+    table: &&[u32],
+    row: u32,
+    channel: u32,
+    shown: u32,
+    context: bool,
+    marks: Marks,
+) -> u32
+    requires { ⌜ Sound (rowsOf (now (now table))) × (row < length (rowsOf (now (now table)))) × (shown < length (rowsOf (now (now table)))) ⌝ }
+    ensures { λ r. ⌜ r ≡ failedAt (eqb channel 0 && under (exprAt (rowsOf (now (now (table .entry)))) shown) context marks) row ⌝ }
 {
     if channel != 0 {
         return 0;
@@ -57,15 +64,15 @@ fn failing_at(table: &[u32], row: u32, channel: u32, shown: u32, context: bool, 
 
 // Walks a loop's body from the incoming set, adds what comes back, and walks again until nothing is added. The walk that adds
 // nothing started from the final set, so what failed in it is what fails. Each walk but the last adds a variable.
-fn walk_loop(table: &[u32], test: u32, body: u32, context: bool, marks: Marks) -> Found
-    requires { ⌜ Sound (rowsOf (now table)) × (test < length (rowsOf (now table))) × (body < length (rowsOf (now table))) ⌝ }
-    ensures { λ r. ⌜ r ≡ foundOf (rounds (width + 1) (λ (loop : ℕ). walk (stmtAt (rowsOf (now (table .entry))) body) (under (exprAt (rowsOf (now (table .entry))) test) context loop) loop) marks) ⌝ }
+fn walk_loop(table: &&[u32], test: u32, body: u32, context: bool, marks: Marks) -> Found
+    requires { ⌜ Sound (rowsOf (now (now table))) × (test < length (rowsOf (now (now table)))) × (body < length (rowsOf (now (now table)))) ⌝ }
+    ensures { λ r. ⌜ r ≡ foundOf (rounds (width + 1) (λ (loop : ℕ). walk (stmtAt (rowsOf (now (now (table .entry)))) body) (under (exprAt (rowsOf (now (now (table .entry)))) test) context loop) loop) marks) ⌝ }
 {
     let mut set = marks;
     let mut left = VARIABLES + 1;
     while left != 0 {
         let inside = is_guarded(table, test, context, set);
-        let turn = walk(table, body, inside, set);
+        let turn = walk_lent(table, body, inside, set);
         let grown = joined(set, turn.marks);
         if grown == set {
             return Found {
@@ -82,12 +89,13 @@ fn walk_loop(table: &[u32], test: u32, body: u32, context: bool, marks: Marks) -
     }
 }
 
-// Walks the statement at a row, in a context, from a mark set.
-pub fn walk(table: &[u32], row: u32, context: bool, marks: Marks) -> Found
-    requires { ⌜ Sound (rowsOf (now table)) × (row < length (rowsOf (now table))) ⌝ }
-    ensures { λ r. ⌜ r ≡ foundOf (walk (stmtAt (rowsOf (now (table .entry))) row) context marks) ⌝ }
+// Walks the statement at a row, in a context, from a mark set. The table's slice is lent in turn, so that a call hands on an
+// address alone.
+fn walk_lent(table: &&[u32], row: u32, context: bool, marks: Marks) -> Found
+    requires { ⌜ Sound (rowsOf (now (now table))) × (row < length (rowsOf (now (now table)))) ⌝ }
+    ensures { λ r. ⌜ r ≡ foundOf (walk (stmtAt (rowsOf (now (now (table .entry)))) row) context marks) ⌝ }
 {
-    let here = read_row(table, row);
+    let here = read_row(*table, row);
     let kind = here.kind;
     match kind {
         Kind::Assign => {
@@ -98,8 +106,8 @@ pub fn walk(table: &[u32], row: u32, context: bool, marks: Marks) -> Found
             }
         }
         Kind::Sequence => {
-            let first = walk(table, here.p, context, marks);
-            let second = walk(table, here.q, context, first.marks);
+            let first = walk_lent(table, here.p, context, marks);
+            let second = walk_lent(table, here.q, context, first.marks);
             Found {
                 marks: second.marks,
                 lowest: lower(first.lowest, second.lowest),
@@ -107,8 +115,8 @@ pub fn walk(table: &[u32], row: u32, context: bool, marks: Marks) -> Found
         }
         Kind::If => {
             let inside = is_guarded(table, here.p, context, marks);
-            let then = walk(table, here.q, inside, marks);
-            let other = walk(table, here.r, inside, marks);
+            let then = walk_lent(table, here.q, inside, marks);
+            let other = walk_lent(table, here.r, inside, marks);
             Found {
                 marks: then.marks | other.marks,
                 lowest: lower(then.lowest, other.lowest),
@@ -121,4 +129,12 @@ pub fn walk(table: &[u32], row: u32, context: bool, marks: Marks) -> Found
         },
         _ => Found { marks, lowest: 0 },
     }
+}
+
+// Walks the statement at a row, in a context, from a mark set.
+pub fn walk(table: &[u32], row: u32, context: bool, marks: Marks) -> Found
+    requires { ⌜ Sound (rowsOf (now table)) × (row < length (rowsOf (now table))) ⌝ }
+    ensures { λ r. ⌜ r ≡ foundOf (walk (stmtAt (rowsOf (now (table .entry))) row) context marks) ⌝ }
+{
+    walk_lent(&table, row, context, marks)
 }

@@ -25,14 +25,14 @@ use Rattle.rows.proofs.read_row.Reads as read-row-reads
 use Rattle.levels.proofs.provisional.+is_provisional.{statement}
 use Rattle.levels.proofs.provisional.+is_provisional.Tie.{close}
 
-abbrev μ-is-provisional : Measures 1 is-provisional-kinds.ps ℕ
+abbrev μ-is-provisional : Measures 2 is-provisional-kinds.ps ℕ
 μ-is-provisional κs a = a .1 .0
 
-abbrev is-provisional-at : ℕ → In 1 is-provisional-kinds.ps
-is-provisional-at t = and 1 is-provisional-kinds.ps (is 1 is-provisional-kinds.ps μ-is-provisional t) is-provisional.Pre
+abbrev is-provisional-at : ℕ → In 2 is-provisional-kinds.ps
+is-provisional-at t = and 2 is-provisional-kinds.ps (is 2 is-provisional-kinds.ps μ-is-provisional t) is-provisional.Pre
 
-abbrev is-provisional-below : ℕ → In 1 is-provisional-kinds.ps
-is-provisional-below t = and 1 is-provisional-kinds.ps (falls 1 is-provisional-kinds.ps _<_ μ-is-provisional t) is-provisional.Pre
+abbrev is-provisional-below : ℕ → In 2 is-provisional-kinds.ps
+is-provisional-below t = and 2 is-provisional-kinds.ps (falls 2 is-provisional-kinds.ps _<_ μ-is-provisional t) is-provisional.Pre
 
 abbrev calls : ℕ → is-provisional-lts.Claims
 calls t = (
@@ -48,12 +48,12 @@ calls t = (
 module _ (t : ℕ) (c : is-provisional-lts.After-read-row (calls t) (is-provisional-at t) is-provisional.Post) where
   words-as :
       {kind : Kind} → c .read-row .result .kind ≡ kind
-      → SoundRow (rowsOf (c .before .before .args .table .now)) (c .before .before .args .row) kind (c .read-row .result)
+      → SoundRow (rowsOf (c .before .before .args .table .now .now)) (c .before .before .args .row) kind (c .read-row .result)
   words-as = sound-as (c .before .before .pre .1 .0) (c .before .before .pre .1 .1) (c .read-row .ensures)
 
   below :
       {w : ℕ} → w < c .before .before .args .row
-      → (w < t) × (Sound (rowsOf (c .before .before .args .table .now)) × (w < length (rowsOf (c .before .before .args .table .now))))
+      → (w < t) × (Sound (rowsOf (c .before .before .args .table .now .now)) × (w < length (rowsOf (c .before .before .args .table .now .now))))
   below h =
       let pre = c .before .before .pre in
       (omega (arith, pre .0), (pre .1 .0, omega (arith, pre .1 .1)))
@@ -62,11 +62,11 @@ module _ (t : ℕ) (c : is-provisional-lts.After-read-row (calls t) (is-provisio
       {b : Bool}
       → provisional
       (level (c .before .before .args .marks)
-      (exprNode (exprAt (rowsOf (c .before .before .args .table .now))) (c .read-row .result) (c .read-row .result .kind)))
+      (exprNode (exprAt (rowsOf (c .before .before .args .table .now .now))) (c .read-row .result) (c .read-row .result .kind)))
       ≡ b
       → b
       ≡ provisional
-      (level (c .before .before .args .marks) (exprAt (rowsOf (c .before .before .args .table .now)) (c .before .before .args .row)))
+      (level (c .before .before .args .marks) (exprAt (rowsOf (c .before .before .args .table .now .now)) (c .before .before .args .row)))
   of-row e =
       sym e
       ∙ ap
@@ -99,7 +99,7 @@ is-provisional-returns t c =
     let left = sym (c .before .is-provisional .ensures) ∙ c .if1 .taken in
     of-row t here
     (kind-arm (provisional-arms _ _ _ .1) _ (told .before .match .keys2)
-    ∙ ap (λ (b : Bool). b || provisional (level (here .before .before .args .marks) (exprAt (rowsOf (here .before .before .args .table .now)) (here .read-row .result .r)))) left)
+    ∙ ap (λ (b : Bool). b || provisional (level (here .before .before .args .marks) (exprAt (rowsOf (here .before .before .args .table .now .now)) (here .read-row .result .r)))) left)
 
 is-provisional-is-provisional-requires-2 :
     (t : ℕ) → is-provisional-lts.Need-is-provisional-requires-2 (calls t) (is-provisional-at t) is-provisional.Post
@@ -124,7 +124,7 @@ is-provisional-returns-3 t c =
     c .is-provisional2 .ensures
     ∙ of-row t here
     (kind-arm (provisional-arms _ _ _ .1) _ (told .before .match .keys2)
-    ∙ ap (λ (b : Bool). b || provisional (level (here .before .before .args .marks) (exprAt (rowsOf (here .before .before .args .table .now)) (here .read-row .result .r)))) left)
+    ∙ ap (λ (b : Bool). b || provisional (level (here .before .before .args .marks) (exprAt (rowsOf (here .before .before .args .table .now .now)) (here .read-row .result .r)))) left)
 
 is-provisional-returns-4 : (t : ℕ) → is-provisional-lts.Need-returns-4 (calls t) (is-provisional-at t) is-provisional.Post
 is-provisional-returns-4 t c = of-row t (c .before) (kind-arm (provisional-arms _ _ _ .2) _ (c .match .keys3))

@@ -1,4 +1,4 @@
--- The proof of the cycle of calls {walk, walk_loop}: the row number falls, and each arm is one kind of statement; a loop's
+-- The proof of the cycle of calls {walk_lent, walk_loop}: the row number falls, and each arm is one kind of statement; a loop's
 -- rounds left are the rules' rounds left.
 use borrow.Author.Needs.{needs}
 use native.Mathlib.Omega.{arith}
@@ -26,39 +26,39 @@ use Rattle.levels.proofs.FoundLaws.{found-assign, found-sequence, found
 use Prim.Native.Nat.{ℕ, _+_, _*_, _<_}
 use borrow.Fn.Kinds.{In}
 use borrow.Fn.PlainCycle.{Measures, is, falls, and}
-use Rattle.levels.proofs.walk.walk.Reads as walk
-use Rattle.levels.proofs.walk.walk.Kinds as walk-kinds
-use Rattle.levels.proofs.walk.+walk+walk_loop.Lts-walk as walk-lts
+use Rattle.levels.proofs.walk.walk_lent.Reads as walk
+use Rattle.levels.proofs.walk.walk_lent.Kinds as walk-kinds
+use Rattle.levels.proofs.walk.+walk_lent+walk_loop.Lts-walk_lent as walk-lts
 use Rattle.levels.proofs.walk.walk_loop.Reads as walk-loop
 use Rattle.levels.proofs.walk.walk_loop.Kinds as walk-loop-kinds
-use Rattle.levels.proofs.walk.+walk+walk_loop.Lts-walk_loop as walk-loop-lts
+use Rattle.levels.proofs.walk.+walk_lent+walk_loop.Lts-walk_loop as walk-loop-lts
 use Rattle.leaves.proofs.marks.joined.Reads as joined-reads
 use Rattle.levels.proofs.provisional.is_guarded.Reads as is-guarded-reads
 use Rattle.levels.proofs.walk.failing_at.Reads as failing-at-reads
 use Rattle.levels.proofs.walk.lower.Reads as lower-reads
 use Rattle.leaves.proofs.marks.mark_as.Reads as mark-as-reads
 use Rattle.rows.proofs.read_row.Reads as read-row-reads
-use Rattle.levels.proofs.walk.+walk+walk_loop.{statement}
-use Rattle.levels.proofs.walk.+walk+walk_loop.Tie.{close}
+use Rattle.levels.proofs.walk.+walk_lent+walk_loop.{statement}
+use Rattle.levels.proofs.walk.+walk_lent+walk_loop.Tie.{close}
 
 -- a loop stands between its body and its own row
-abbrev μ-walk : Measures 1 walk-kinds.ps ℕ
+abbrev μ-walk : Measures 2 walk-kinds.ps ℕ
 μ-walk κs a = 2 * a .1 .0
 
-abbrev μ-walk-loop : Measures 1 walk-loop-kinds.ps ℕ
+abbrev μ-walk-loop : Measures 2 walk-loop-kinds.ps ℕ
 μ-walk-loop κs a = 2 * a .1 .1 .0 + 1
 
-abbrev walk-at : ℕ → In 1 walk-kinds.ps
-walk-at t = and 1 walk-kinds.ps (is 1 walk-kinds.ps μ-walk t) walk.Pre
+abbrev walk-at : ℕ → In 2 walk-kinds.ps
+walk-at t = and 2 walk-kinds.ps (is 2 walk-kinds.ps μ-walk t) walk.Pre
 
-abbrev walk-below : ℕ → In 1 walk-kinds.ps
-walk-below t = and 1 walk-kinds.ps (falls 1 walk-kinds.ps _<_ μ-walk t) walk.Pre
+abbrev walk-below : ℕ → In 2 walk-kinds.ps
+walk-below t = and 2 walk-kinds.ps (falls 2 walk-kinds.ps _<_ μ-walk t) walk.Pre
 
-abbrev walk-loop-at : ℕ → In 1 walk-loop-kinds.ps
-walk-loop-at t = and 1 walk-loop-kinds.ps (is 1 walk-loop-kinds.ps μ-walk-loop t) walk-loop.Pre
+abbrev walk-loop-at : ℕ → In 2 walk-loop-kinds.ps
+walk-loop-at t = and 2 walk-loop-kinds.ps (is 2 walk-loop-kinds.ps μ-walk-loop t) walk-loop.Pre
 
-abbrev walk-loop-below : ℕ → In 1 walk-loop-kinds.ps
-walk-loop-below t = and 1 walk-loop-kinds.ps (falls 1 walk-loop-kinds.ps _<_ μ-walk-loop t) walk-loop.Pre
+abbrev walk-loop-below : ℕ → In 2 walk-loop-kinds.ps
+walk-loop-below t = and 2 walk-loop-kinds.ps (falls 2 walk-loop-kinds.ps _<_ μ-walk-loop t) walk-loop.Pre
 
 abbrev calls : ℕ → walk-lts.Claims
 calls t = (
@@ -83,7 +83,7 @@ calls t = (
 -- after the row is read: its words, where its kind is known; what of the table may be asked; and what the row is walked as
 module _ (t : ℕ) (c : walk-lts.After-read-row (calls t) (walk-at t) walk.Post) where
   abbrev rows : List Row
-  rows = rowsOf (c .before .before .args .table .now)
+  rows = rowsOf (c .before .before .args .table .now .now)
 
   words-as : {kind : Kind} → c .read-row .result .kind ≡ kind → SoundRow rows (c .before .before .args .row) kind (c .read-row .result)
   words-as = sound-as (c .before .before .pre .1 .0) (c .before .before .pre .1 .1) (c .read-row .ensures)
@@ -121,11 +121,11 @@ walk-mark-as-requires t c κs = tt
 walk-enum-told-2 : (t : ℕ) → walk-lts.Need-enum-told-2 (calls t) (walk-at t) walk.Post
 walk-enum-told-2 t c = search needs
 
-walk-walk-requires : (t : ℕ) → walk-lts.Need-walk-requires (calls t) (walk-at t) walk.Post
+walk-walk-requires : (t : ℕ) → walk-lts.Need-walk-lent-requires (calls t) (walk-at t) walk.Post
 walk-walk-requires t c κs =
     below t (c .before .before) (sequence-words (words-as t (c .before .before) (c .enum-told2 .given .1)) .0)
 
-walk-walk-requires-2 : (t : ℕ) → walk-lts.Need-walk-requires-2 (calls t) (walk-at t) walk.Post
+walk-walk-requires-2 : (t : ℕ) → walk-lts.Need-walk-lent-requires-2 (calls t) (walk-at t) walk.Post
 walk-walk-requires-2 t c κs =
     below t (c .before .before .before) (sequence-words (words-as t (c .before .before .before) (c .before .enum-told2 .given .1)) .1)
 
@@ -139,11 +139,11 @@ walk-is-guarded-requires-2 : (t : ℕ) → walk-lts.Need-is-guarded-requires-2 (
 walk-is-guarded-requires-2 t c κs =
     within t (c .before .before) (if-words (words-as t (c .before .before) (c .enum-told3 .given .1)) .0)
 
-walk-walk-requires-3 : (t : ℕ) → walk-lts.Need-walk-requires-3 (calls t) (walk-at t) walk.Post
+walk-walk-requires-3 : (t : ℕ) → walk-lts.Need-walk-lent-requires-3 (calls t) (walk-at t) walk.Post
 walk-walk-requires-3 t c κs =
     below t (c .before .before .before) (if-words (words-as t (c .before .before .before) (c .before .enum-told3 .given .1)) .1)
 
-walk-walk-requires-4 : (t : ℕ) → walk-lts.Need-walk-requires-4 (calls t) (walk-at t) walk.Post
+walk-walk-requires-4 : (t : ℕ) → walk-lts.Need-walk-lent-requires-4 (calls t) (walk-at t) walk.Post
 walk-walk-requires-4 t c κs =
     below t (c .before .before .before .before) (if-words (words-as t (c .before .before .before .before) (c .before .before .enum-told3 .given .1)) .2)
 
@@ -188,7 +188,7 @@ walk-returns-2 t c =
     let a = here .before .before .args in
     of-row t here (kind-arm (stmt-arms _ _ _ _ .1) _ (told .before .match .keys2))
     (found-sequence (a .context) (a .marks) (stmtAt (rows t here) (here .read-row .result .p)) (stmtAt (rows t here) (here .read-row .result .q))
-    (first .walk .ensures) (c .before .walk2 .ensures) (c .lower .ensures))
+    (first .walk-lent .ensures) (c .before .walk-lent2 .ensures) (c .lower .ensures))
 
 walk-returns-3 : (t : ℕ) → walk-lts.Need-returns-3 (calls t) (walk-at t) walk.Post
 walk-returns-3 t c =
@@ -200,8 +200,8 @@ walk-returns-3 t c =
     let a = here .before .before .args in
     of-row t here (kind-arm (stmt-arms _ _ _ _ .2) _ (told .before .match .keys3))
     (found-if (a .context) (a .marks) (exprAt (rows t here) (here .read-row .result .p)) (stmtAt (rows t here) (here .read-row .result .q))
-    (stmtAt (rows t here) (here .read-row .result .r)) (asked .is-guarded2 .ensures) (then .walk3 .ensures) (both .walk4 .ensures)
-    (sym (union-or (then .walk3 .result .marks) (both .walk4 .result .marks))) (c .lower2 .ensures))
+    (stmtAt (rows t here) (here .read-row .result .r)) (asked .is-guarded2 .ensures) (then .walk-lent3 .ensures) (both .walk-lent4 .ensures)
+    (sym (union-or (then .walk-lent3 .result .marks) (both .walk-lent4 .result .marks))) (c .lower2 .ensures))
 
 walk-returns-4 : (t : ℕ) → walk-lts.Need-returns-4 (calls t) (walk-at t) walk.Post
 walk-returns-4 t c =
@@ -229,7 +229,7 @@ turns rows test body context loop = rule.walk (stmtAt rows body) (under (exprAt 
 -- what is left to do gives what the whole gives
 abbrev walk-loop-Inv-loop : walk-loop-lts.InvT-loop
 walk-loop-Inv-loop table test body context marks set₀ left₀ set left =
-    rounds left (turns (rowsOf table) test body context) set ≡ rounds (width + 1) (turns (rowsOf table) test body context) marks
+    rounds left (turns (rowsOf (table .now)) test body context) set ≡ rounds (width + 1) (turns (rowsOf (table .now)) test body context) marks
 
 abbrev walk-loop-μ-loop : walk-loop-lts.MeasureT-loop
 walk-loop-μ-loop table test body context marks set₀ left₀ set left = left
@@ -246,21 +246,21 @@ loop-calls t = (
 
 -- a walk of the body, as the rules have it
 turned :
-    (t : ℕ) (c : walk-loop-lts.After-walk (loop-calls t) (walk-loop-at t) walk-loop.Post walk-loop-Inv-loop walk-loop-μ-loop)
-    → c .walk .result
+    (t : ℕ) (c : walk-loop-lts.After-walk-lent (loop-calls t) (walk-loop-at t) walk-loop.Post walk-loop-Inv-loop walk-loop-μ-loop)
+    → c .walk-lent .result
     ≡ foundOf
     (turns
-    (rowsOf (c .before .before .before .before .before .args .table .now))
-    (c .before .before .before .before .before .args .test)
-    (c .before .before .before .before .before .args .body)
-    (c .before .before .before .before .before .args .context)
+    (rowsOf (c .before .before .before .before .args .table .now .now))
+    (c .before .before .before .before .args .test)
+    (c .before .before .before .before .args .body)
+    (c .before .before .before .before .args .context)
     (c .before .before .before .loop .set))
 turned t c =
     let asked = c .before in
     let loop = asked .before .before in
-    let a = loop .before .before .args in
-    c .walk .ensures
-    ∙ ap (λ (b : Bool). foundOf (rule.walk (stmtAt (rowsOf (a .table .now)) (a .body)) b (loop .loop .set))) (asked .is-guarded .ensures)
+    let a = loop .before .args in
+    c .walk-lent .ensures
+    ∙ ap (λ (b : Bool). foundOf (rule.walk (stmtAt (rowsOf (a .table .now .now)) (a .body)) b (loop .loop .set))) (asked .is-guarded .ensures)
 
 walk-loop-add-left : (t : ℕ) → walk-loop-lts.Need-add-left (loop-calls t) (walk-loop-at t) walk-loop.Post walk-loop-Inv-loop walk-loop-μ-loop
 walk-loop-add-left t c = search needs
@@ -270,11 +270,11 @@ walk-loop-loop-holds t c = refl
 
 walk-loop-is-guarded-requires : (t : ℕ) → walk-loop-lts.Need-is-guarded-requires (loop-calls t) (walk-loop-at t) walk-loop.Post walk-loop-Inv-loop walk-loop-μ-loop
 walk-loop-is-guarded-requires t c κs =
-    let pre = c .before .before .before .pre in (pre .1 .0, pre .1 .1)
+    let pre = c .before .before .pre in (pre .1 .0, pre .1 .1)
 
-walk-loop-walk-requires : (t : ℕ) → walk-loop-lts.Need-walk-requires (loop-calls t) (walk-loop-at t) walk-loop.Post walk-loop-Inv-loop walk-loop-μ-loop
+walk-loop-walk-requires : (t : ℕ) → walk-loop-lts.Need-walk-lent-requires (loop-calls t) (walk-loop-at t) walk-loop.Post walk-loop-Inv-loop walk-loop-μ-loop
 walk-loop-walk-requires t c κs =
-    let pre = c .before .before .before .before .pre in (omega (arith, pre .0), (pre .1 .0, pre .1 .2))
+    let pre = c .before .before .before .pre in (omega (arith, pre .0), (pre .1 .0, pre .1 .2))
 
 walk-loop-joined-requires : (t : ℕ) → walk-loop-lts.Need-joined-requires (loop-calls t) (walk-loop-at t) walk-loop.Post walk-loop-Inv-loop walk-loop-μ-loop
 walk-loop-joined-requires t c κs = tt
@@ -298,8 +298,8 @@ walk-loop-loop-again t c =
 walk-loop-returns-2 : (t : ℕ) → walk-loop-lts.Need-returns-2 (loop-calls t) (walk-loop-at t) walk-loop.Post walk-loop-Inv-loop walk-loop-μ-loop
 walk-loop-returns-2 t c = over-here _ _ _ _ (c .before .loop .inv) (c .loop-test .left)
 
-pub +walk+walk-loop-spec : {M : Type 1} → statement M
-+walk+walk-loop-spec = close μ-walk μ-walk-loop (λ t. walk-lts.spec (calls t)
+pub +walk-lent+walk-loop-spec : {M : Type 1} → statement M
++walk-lent+walk-loop-spec = close μ-walk μ-walk-loop (λ t. walk-lts.spec (calls t)
     (walk-at t)
     walk.Post
     (walk-read-row-requires t)
