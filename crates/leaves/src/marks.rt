@@ -6,7 +6,7 @@ ghost use mathlib.Core.Bool.{true, false};
 ghost use mathlib.Core.Path.{_≡_};
 ghost use Prim.Native.Nat.{_%_};
 ghost use Rattle.rules.specs.Limits.{width};
-ghost use Rattle.rules.specs.Marks.{has, put, only, union, marked};
+ghost use Rattle.rules.specs.Marks.{has, put, only, union};
 
 // The set of one variable.
 pub fn only_mark(variable: u32) -> Marks
@@ -23,14 +23,14 @@ pub fn has_mark(marks: Marks, variable: u32) -> bool
 }
 
 // The set with the variable.
-pub fn with_mark(marks: Marks, variable: u32) -> Marks
+fn with_mark(marks: Marks, variable: u32) -> Marks
     ensures { λ r. ⌜ r ≡ put (variable % width) true marks ⌝ }
 {
     marks | only_mark(variable)
 }
 
 // The set without the variable.
-pub fn without_mark(marks: Marks, variable: u32) -> Marks
+fn without_mark(marks: Marks, variable: u32) -> Marks
     ensures { λ r. ⌜ r ≡ put (variable % width) false marks ⌝ }
 {
     marks & !only_mark(variable)
@@ -51,11 +51,4 @@ pub fn joined(a: Marks, b: Marks) -> Marks
     ensures { λ r. ⌜ r ≡ union a b ⌝ }
 {
     a | b
-}
-
-// "`marked` how many variables it marks": the ones of the set.
-pub fn count_marks(marks: Marks) -> u32
-    ensures { λ r. ⌜ r ≡ marked marks ⌝ }
-{
-    u32::count_ones(marks)
 }
