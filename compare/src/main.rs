@@ -8,10 +8,12 @@ mod damages;
 mod kinds;
 mod pairs;
 mod shrink;
+mod stored;
 mod tables;
 mod words;
 
 use std::panic::{catch_unwind, AssertUnwindSafe};
+use std::path::{Path, PathBuf};
 use std::process::ExitCode;
 use std::time::Instant;
 
@@ -21,6 +23,7 @@ use case::Case;
 use comparison::{compare_on_a_table, difference};
 use kinds::{Kind, Tally};
 use shrink::smallest;
+use stored::compare_stored;
 
 const HELP: &str = "\
 usage: compare [OPTION]...
@@ -31,6 +34,7 @@ demand 3 on pairs of memories. Prints a summary, or the smallest job that shows 
   --seed S    which tables (1): the same seed gives the same ones
   --first I   begin with table I of the seed (0), to see one again
   --kinds     print how often each kind of case occurred
+  --stored D  compare on the table cases stored in folder D, and on no random one
   --help      print this text
 Exit status: 0 no difference, 1 a difference, or a kind of case that never occurred in a run
 over 20000 tables or more, 2 a use that is not known.
@@ -49,6 +53,7 @@ struct Options {
     seed: u64,
     first: u64,
     kinds: bool,
+    stored: Option<PathBuf>,
     help: bool,
 }
 
@@ -58,6 +63,7 @@ fn options(mut words: impl Iterator<Item = String>) -> Result<Options, String> {
         seed: 1,
         first: 0,
         kinds: false,
+        stored: None,
         help: false,
     };
     while let Some(word) = words.next() {
@@ -66,6 +72,7 @@ fn options(mut words: impl Iterator<Item = String>) -> Result<Options, String> {
             "--seed" => options.seed = number(&word, words.next())?,
             "--first" => options.first = number(&word, words.next())?,
             "--kinds" => options.kinds = true,
+            "--stored" => options.stored = Some(folder(&word, words.next())?),
             "--help" => options.help = true,
             _ => return Err(format!("unknown option: {word}; try --help")),
         }
@@ -76,6 +83,11 @@ fn options(mut words: impl Iterator<Item = String>) -> Result<Options, String> {
 fn number(option: &str, word: Option<String>) -> Result<u64, String> {
     let number = word.as_ref().and_then(|word| word.parse().ok());
     number.ok_or(format!("{option} needs a whole number; try --help"))
+}
+
+fn folder(option: &str, word: Option<String>) -> Result<PathBuf, String> {
+    let folder = word.map(PathBuf::from);
+    folder.ok_or(format!("{option} needs a folder; try --help"))
 }
 
 fn main() -> ExitCode {
@@ -89,7 +101,23 @@ fn main() -> ExitCode {
             print!("{HELP}");
             ExitCode::SUCCESS
         }
-        Ok(options) => compare(&options),
+        Ok(options) => match &options.stored {
+            Some(folder) => stored(folder),
+            None => compare(&options),
+        },
+    }
+}
+
+fn stored(folder: &Path) -> ExitCode {
+    match compare_stored(folder) {
+        Ok(count) => {
+            println!("compare: {count} stored cases, no difference");
+            ExitCode::SUCCESS
+        }
+        Err(text) => {
+            print!("compare: {text}");
+            ExitCode::from(FAILED)
+        }
     }
 }
 

@@ -3,19 +3,41 @@
 use crate::job::{end_lines, list, refusal_lines, Lines, LACKS_FORM, OUT_OF_RANGE};
 use crate::levels::{levels, Outcome};
 use crate::marks::VARIABLES;
-use crate::run::run;
+use crate::run::{run, Answer};
 use crate::table::{judge, Refusal};
 use crate::tree::{Memory, Operator};
 
+/// The functions that cases ask. An answer's lines are the same, whoever gives it.
+pub struct Functions {
+    pub judge: fn(&[u32]) -> Result<(), Refusal>,
+    pub levels: fn(&[u32], u32) -> (Outcome, u32),
+    pub run: fn(&[u32], Memory, u32, u32, &mut [u32]) -> (Answer, u32),
+}
+
+const OWN: Functions = Functions {
+    judge: |words| judge(words).map(|_| ()),
+    levels,
+    run,
+};
+
 /// Answers a case; a case that lacks its form is refused as a job line would be.
 pub fn answer(input: &[u8]) -> Result<String, Refusal> {
+    answer_by(&OWN, input)
+}
+
+/// Answers a case by these functions; an operator is always answered by the one here.
+pub fn answer_by(functions: &Functions, input: &[u8]) -> Result<String, Refusal> {
     let mut lines = Lines::of(input);
     let answer = match lines.word("ask")? {
-        b"judge" => judge_answer(&counted(&mut lines, "count", "words")?),
-        b"run" => run_answer(&mut lines)?,
+        b"judge" => {
+            let words = counted(&mut lines, "count", "words")?;
+            judge_lines((functions.judge)(&words))
+        }
+        b"run" => run_answer(functions, &mut lines)?,
         b"levels" => {
             let words = counted(&mut lines, "count", "words")?;
-            levels_answer(&words, lines.number("levels", u32::MAX)?)
+            let marks = lines.number("levels", u32::MAX)?;
+            levels_lines((functions.levels)(&words, marks))
         }
         b"operator" => operator_answer(&mut lines)?,
         _ => return Err(fault(LACKS_FORM, 1)),
@@ -35,12 +57,19 @@ fn counted(lines: &mut Lines, count: &str, key: &str) -> Result<Vec<u32>, Refusa
 }
 
 pub fn judge_answer(words: &[u32]) -> String {
+    judge_lines((OWN.judge)(words))
+}
+
+fn judge_lines(judged: Result<(), Refusal>) -> String {
     let accepted = Refusal { number: 0, at: 0 };
-    refusal_lines(judge(words).err().unwrap_or(accepted))
+    refusal_lines(judged.err().unwrap_or(accepted))
 }
 
 pub fn levels_answer(words: &[u32], marks: u32) -> String {
-    let (outcome, marks) = levels(words, marks);
+    levels_lines((OWN.levels)(words, marks))
+}
+
+fn levels_lines((outcome, marks): (Outcome, u32)) -> String {
     let first = match outcome {
         Outcome::Refused(refusal) => refusal_lines(refusal),
         Outcome::Pass => "failed=0\nat=0\n".to_string(),
@@ -49,14 +78,14 @@ pub fn levels_answer(words: &[u32], marks: u32) -> String {
     first + &format!("levels={marks}\n")
 }
 
-fn run_answer(lines: &mut Lines) -> Result<String, Refusal> {
+fn run_answer(functions: &Functions, lines: &mut Lines) -> Result<String, Refusal> {
     let words = counted(lines, "count", "words")?;
     let mut memory: Memory = [0; VARIABLES];
     memory.copy_from_slice(&lines.numbers("mem", VARIABLES, u32::MAX)?);
     let marks = lines.number("levels", u32::MAX)?;
     let budget = lines.number("budget", u32::MAX)?;
     let mut trace = counted(lines, "lent", "trace")?;
-    let (answer, marks) = run(&words, memory, marks, budget, &mut trace);
+    let (answer, marks) = (functions.run)(&words, memory, marks, budget, &mut trace);
     let mut text = end_lines(&answer.end);
     text += &format!("steps={}\nlevels={marks}\n", answer.steps);
     text += &format!("mem={}\n", list(&answer.memory));
