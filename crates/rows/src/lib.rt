@@ -1,7 +1,4 @@
-// The rows of a table of words, and the kinds of rows.
-pub mod kinds;
-
-use crate::kinds::kind_of;
+// The rows of a table of words.
 use rules::Kind;
 use rules::ROW_WORDS;
 use rules::Row;
@@ -9,7 +6,25 @@ ghost use mathlib.Core.Path.{_≡_};
 ghost use Prim.Native.Nat.{_<_};
 ghost use lib.Dec.{ltb};
 ghost use lib.ListN.{length};
-ghost use Rattle.rules.specs.Rows.{rowsOf, rowAt};
+ghost use Rattle.rules.specs.Rows.{kindOf, rowsOf, rowAt};
+
+// The kind that a row's first word says.
+fn kind_of(word: u32) -> Kind
+    ensures { λ r. ⌜ r ≡ kindOf word ⌝ }
+{
+    match word {
+        0 => Kind::Skip,
+        1 => Kind::Assign,
+        2 => Kind::Sequence,
+        3 => Kind::If,
+        4 => Kind::While,
+        5 => Kind::Output,
+        8 => Kind::Constant,
+        9 => Kind::Variable,
+        10 => Kind::Binary,
+        _ => Kind::Unknown,
+    }
+}
 
 // The row of a number, for callers that know that the table has it.
 pub fn read_row(table: &[u32], row: u32) -> Row

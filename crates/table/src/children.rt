@@ -1,7 +1,7 @@
 // Refusal 3: a child's number not below its parent's, or a child of the wrong sort.
-use rows::kinds::is_expression;
-use rows::kinds::is_statement;
-use rows::kinds::roles_of;
+use crate::kinds::is_expression;
+use crate::kinds::is_statement;
+use crate::kinds::roles_of;
 use rows::read_row;
 use rules::Judged;
 use rules::Role;

@@ -8,6 +8,7 @@ ghost use Rattle.rules.specs.Answers.{saidOfJudge, judgement};
 
 mod children;
 mod depths;
+mod kinds;
 mod parents;
 mod words;
 

@@ -1,6 +1,6 @@
 // Refusal 4: a row before the last that is a child of no row or at more than one place, or a last row that is an expression.
-use rows::kinds::is_expression;
-use rows::kinds::roles_of;
+use crate::kinds::is_expression;
+use crate::kinds::roles_of;
 use rows::read_row;
 use rules::Judged;
 use rules::MOST_ROWS;

@@ -1,5 +1,5 @@
 // Refusal 2: a row of no known kind, or with a word that its role does not allow.
-use rows::kinds::roles_of;
+use crate::kinds::roles_of;
 use rows::read_row;
 use rules::Judged;
 use rules::Kind;

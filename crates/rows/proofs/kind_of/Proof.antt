@@ -1,9 +1,9 @@
--- `rows::kinds::kind_of` meets its contract: each arm is one line of the table of kinds.
+-- `rows::kind_of` meets its contract: each arm is one line of the table of kinds.
 use mathlib.Core.Path.{sym, ap, _∙_}
 use Rattle.rules.specs.Rows.{kindOf}
 use Rattle.rules.proofs.RowLaws.{kinds-law, kind-unknown}
-use Rattle.rows.proofs.kinds.kind_of.Statement.{statement}
-use Rattle.rows.proofs.kinds.kind_of.Tie as tie
+use Rattle.rows.proofs.kind_of.Statement.{statement}
+use Rattle.rows.proofs.kind_of.Tie as tie
 
 returns : tie.Need-returns
 returns c = sym (ap kindOf (c .match .keys1) ∙ kinds-law .0)

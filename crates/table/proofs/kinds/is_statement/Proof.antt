@@ -1,8 +1,8 @@
--- `rows::kinds::is_statement` meets its contract.
+-- `table::kinds::is_statement` meets its contract.
 use mathlib.Core.Path.{sym}
 use Rattle.rules.proofs.RowLaws.{kind-arm, statement-arms}
-use Rattle.rows.proofs.kinds.is_statement.Statement.{statement}
-use Rattle.rows.proofs.kinds.is_statement.Tie as tie
+use Rattle.table.proofs.kinds.is_statement.Statement.{statement}
+use Rattle.table.proofs.kinds.is_statement.Tie as tie
 
 returns : tie.Need-returns
 returns c = sym (kind-arm (statement-arms .0) (c .before .args .kind) (c .match .keys1))

@@ -1,4 +1,4 @@
--- `rows::kinds::roles_of` meets its contract: the constant table has at every place what the rules say.
+-- `table::kinds::roles_of` meets its contract: the constant table has at every place what the rules say.
 use mathlib.Core.Path.{_≡_, sym, ap, _∙_}
 use lib.ListN.{getD}
 use denote.Enum.Declared.{tagOf}
@@ -7,8 +7,8 @@ use Rattle.rules.specs.declared.Kind.{Kind}
 use Rattle.rules.specs.Rows.{rolesOf}
 use Rattle.rules.proofs.RowLaws.{rolesTable, roles-law}
 use borrow.Author.Needs.{needs}
-use Rattle.rows.proofs.kinds.roles_of.Statement.{statement}
-use Rattle.rows.proofs.kinds.roles_of.Tie as tie
+use Rattle.table.proofs.kinds.roles_of.Statement.{statement}
+use Rattle.table.proofs.kinds.roles_of.Tie as tie
 
 -- the table at the place of the kind that is told
 at-place : {kind : Kind} (told : Kind) → kind ≡ told → getD rolesTable (tagOf the-type told) (rolesOf told) ≡ rolesOf kind

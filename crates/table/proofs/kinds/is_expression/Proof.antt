@@ -1,8 +1,8 @@
--- `rows::kinds::is_expression` meets its contract.
+-- `table::kinds::is_expression` meets its contract.
 use mathlib.Core.Path.{sym}
 use Rattle.rules.proofs.RowLaws.{kind-arm, expression-arms}
-use Rattle.rows.proofs.kinds.is_expression.Statement.{statement}
-use Rattle.rows.proofs.kinds.is_expression.Tie as tie
+use Rattle.table.proofs.kinds.is_expression.Statement.{statement}
+use Rattle.table.proofs.kinds.is_expression.Tie as tie
 
 returns : tie.Need-returns
 returns c = sym (kind-arm (expression-arms .0) (c .before .args .kind) (c .match .keys1))

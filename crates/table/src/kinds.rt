@@ -1,9 +1,9 @@
-// Kinds: which one a word says, what each of the three words of a row is, and which kinds are statements or expressions.
+// Kinds, for the judge: what each of the three words of a row is, and which kinds are statements or expressions.
 use rules::Kind;
 use rules::Role;
 use rules::Roles;
 ghost use mathlib.Core.Path.{_≡_};
-ghost use Rattle.rules.specs.Rows.{kindOf, rolesOf, isStatement, isExpression};
+ghost use Rattle.rules.specs.Rows.{rolesOf, isStatement, isExpression};
 
 // "Which word is a variable, a row or a constant is fixed for each kind": by the kind's place in `Kind`.
 const ROLES: [Roles; 10] = [
@@ -68,24 +68,6 @@ const ROLES: [Roles; 10] = [
         r: Role::Unnamed,
     },
 ];
-
-// The kind that a row's first word says.
-pub fn kind_of(word: u32) -> Kind
-    ensures { λ r. ⌜ r ≡ kindOf word ⌝ }
-{
-    match word {
-        0 => Kind::Skip,
-        1 => Kind::Assign,
-        2 => Kind::Sequence,
-        3 => Kind::If,
-        4 => Kind::While,
-        5 => Kind::Output,
-        8 => Kind::Constant,
-        9 => Kind::Variable,
-        10 => Kind::Binary,
-        _ => Kind::Unknown,
-    }
-}
 
 // What each of the three words is in a row of the kind: the table is read at the kind's place. A place that is written out
 // lets the compiler read the table; one that is computed has it put together for every row.
