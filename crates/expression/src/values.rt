@@ -19,7 +19,7 @@ ghost use Rattle.rules.specs.Limits.{width};
 ghost use Rattle.rules.specs.Rows.{rowsOf};
 ghost use Rattle.rules.specs.Trees.{variable, exprAt};
 ghost use Rattle.rules.specs.Sound.{Sound};
-ghost use Rattle.expression.specs.Valued.{valuedOf, evaluationOf};
+ghost use Rattle.expression.specs.Valued.{valuedOf, valuedIn, evaluationOf};
 
 // An expression's value, and its level: the marked variables that are read in it.
 pub struct Valued {
@@ -33,43 +33,57 @@ pub enum Evaluation {
     Refused { number: u32, row: u32 },
 }
 
+// A level stands above a value in one word: 2^32.
+const LEVELS: u64 = 4294967296;
+
+// Value and level in one word. The recursion answers so, since one word comes back in a register and a struct through memory.
+fn pack(value: u32, level: Marks) -> u64
+    ensures { λ r. ⌜ valuedIn r ≡ record { value = value; level = level } ⌝ }
+{
+    level as u64 * LEVELS + value as u64
+}
+
+// The value and level that stand in one word.
+fn unpack(word: u64) -> Valued
+    ensures { λ r. ⌜ r ≡ valuedIn word ⌝ }
+{
+    Valued {
+        value: (word % LEVELS) as u32,
+        level: (word / LEVELS) as u32,
+    }
+}
+
 // The variable's value, and its level: itself where it is marked.
-fn read_variable(words: &[u32; VARIABLES], marks: Marks, v: u32) -> Valued
+fn read_variable(words: &[u32; VARIABLES], marks: Marks, v: u32) -> u64
     requires { ⌜ length (now words) ≡ width ⌝ }
-    ensures { λ r. ⌜ r ≡ valuedOf (now (words .entry)) marks (variable (v % width)) ⌝ }
+    ensures { λ r. ⌜ valuedIn r ≡ valuedOf (now (words .entry)) marks (variable (v % width)) ⌝ }
 {
     let value = read_lent(words, v);
     if has_mark(marks, v) {
-        return Valued {
-            value,
-            level: only_mark(v),
-        };
+        return pack(value, only_mark(v));
     }
-    Valued { value, level: 0 }
+    pack(value, 0)
 }
 
 // The value and level of the expression at a row. The table's slice is lent in turn, so that a call hands on an address alone.
-fn evaluate_lent(table: &&[u32], row: u32, words: &[u32; VARIABLES], marks: Marks) -> Valued
+fn evaluate_lent(table: &&[u32], row: u32, words: &[u32; VARIABLES], marks: Marks) -> u64
     requires { ⌜ Sound (rowsOf (now (now table))) × (row < length (rowsOf (now (now table)))) × (length (now words) ≡ width) ⌝ }
-    ensures { λ r. ⌜ r ≡ valuedOf (now (words .entry)) marks (exprAt (rowsOf (now (now (table .entry)))) row) ⌝ }
+    ensures { λ r. ⌜ valuedIn r ≡ valuedOf (now (words .entry)) marks (exprAt (rowsOf (now (now (table .entry)))) row) ⌝ }
 {
     let here = read_row(*table, row);
     let kind = here.kind;
     match kind {
-        Kind::Constant => Valued {
-            value: here.p,
-            level: 0,
-        },
+        Kind::Constant => pack(here.p, 0),
         Kind::Variable => read_variable(words, marks, here.p),
         Kind::Binary => {
-            let left = evaluate_lent(table, here.q, words, marks);
-            let right = evaluate_lent(table, here.r, words, marks);
-            Valued {
-                value: operated(here.p, left.value, right.value),
-                level: joined(left.level, right.level),
-            }
+            let left = unpack(evaluate_lent(table, here.q, words, marks));
+            let right = unpack(evaluate_lent(table, here.r, words, marks));
+            pack(
+                operated(here.p, left.value, right.value),
+                joined(left.level, right.level),
+            )
         }
-        _ => Valued { value: 0, level: 0 },
+        _ => pack(0, 0),
     }
 }
 
@@ -78,7 +92,7 @@ pub fn evaluate(table: &[u32], row: u32, words: &[u32; VARIABLES], marks: Marks)
     requires { ⌜ Sound (rowsOf (now table)) × (row < length (rowsOf (now table))) × (length (now words) ≡ width) ⌝ }
     ensures { λ r. ⌜ r ≡ valuedOf (now (words .entry)) marks (exprAt (rowsOf (now (table .entry))) row) ⌝ }
 {
-    evaluate_lent(&table, row, words, marks)
+    unpack(evaluate_lent(&table, row, words, marks))
 }
 
 // The value and level of the expression at a row of any table: the table is judged first. A row that the table does not

@@ -22,6 +22,8 @@ use Rattle.expression.proofs.values.evaluate_lent.Kinds as evaluate-kin
 use Rattle.expression.proofs.values.+evaluate_lent.Lts-evaluate_lent as evaluate-lts
 use Rattle.leaves.proofs.marks.joined.Reads as joined-reads
 use Rattle.leaves.proofs.operators.operated.Reads as operated-reads
+use Rattle.expression.proofs.values.pack.Reads as pack-reads
+use Rattle.expression.proofs.values.unpack.Reads as unpack-reads
 use Rattle.expression.proofs.values.read_variable.Reads as read-variable-reads
 use Rattle.rows.proofs.read_row.Reads as read-row-reads
 use Rattle.expression.proofs.values.+evaluate_lent.{statement}
@@ -41,10 +43,14 @@ abbrev calls : ℕ → evaluate-lts.Claims
 calls t = (
   read-row-reads.Asked,
   read-row-reads.Learnt,
+  pack-reads.Asked,
+  pack-reads.Learnt,
   read-variable-reads.Asked,
   read-variable-reads.Learnt,
   evaluate-below t,
   evaluate.Post,
+  unpack-reads.Asked,
+  unpack-reads.Learnt,
   operated-reads.Asked,
   operated-reads.Learnt,
   joined-reads.Asked,
@@ -88,6 +94,9 @@ evaluate-read-row-requires t c κs = c .before .pre .1 .1
 evaluate-enum-told : (t : ℕ) → evaluate-lts.Need-enum-told (calls t) (evaluate-at t) evaluate.Post
 evaluate-enum-told t c = search needs
 
+evaluate-pack-requires : (t : ℕ) → evaluate-lts.Need-pack-requires (calls t) (evaluate-at t) evaluate.Post
+evaluate-pack-requires t c κs = tt
+
 evaluate-enum-told-2 : (t : ℕ) → evaluate-lts.Need-enum-told-2 (calls t) (evaluate-at t) evaluate.Post
 evaluate-enum-told-2 t c = search needs
 
@@ -101,9 +110,16 @@ evaluate-evaluate-requires : (t : ℕ) → evaluate-lts.Need-evaluate-lent-requi
 evaluate-evaluate-requires t c κs =
     below t (c .before .before) (binary-words (words-as t (c .before .before) (c .enum-told3 .given .1)) .0)
 
+evaluate-unpack-requires : (t : ℕ) → evaluate-lts.Need-unpack-requires (calls t) (evaluate-at t) evaluate.Post
+evaluate-unpack-requires t c κs = tt
+
 evaluate-evaluate-requires-2 : (t : ℕ) → evaluate-lts.Need-evaluate-lent-requires-2 (calls t) (evaluate-at t) evaluate.Post
 evaluate-evaluate-requires-2 t c κs =
-    below t (c .before .before .before) (binary-words (words-as t (c .before .before .before) (c .before .enum-told3 .given .1)) .1)
+    let told = c .before .before in
+    below t (told .before .before) (binary-words (words-as t (told .before .before) (told .enum-told3 .given .1)) .1)
+
+evaluate-unpack-requires-2 : (t : ℕ) → evaluate-lts.Need-unpack-requires-2 (calls t) (evaluate-at t) evaluate.Post
+evaluate-unpack-requires-2 t c κs = tt
 
 evaluate-operated-requires : (t : ℕ) → evaluate-lts.Need-operated-requires (calls t) (evaluate-at t) evaluate.Post
 evaluate-operated-requires t c κs = tt
@@ -111,9 +127,16 @@ evaluate-operated-requires t c κs = tt
 evaluate-joined-requires : (t : ℕ) → evaluate-lts.Need-joined-requires (calls t) (evaluate-at t) evaluate.Post
 evaluate-joined-requires t c κs = tt
 
+evaluate-pack-requires-2 : (t : ℕ) → evaluate-lts.Need-pack-requires-2 (calls t) (evaluate-at t) evaluate.Post
+evaluate-pack-requires-2 t c κs = tt
+
+evaluate-pack-requires-3 : (t : ℕ) → evaluate-lts.Need-pack-requires-3 (calls t) (evaluate-at t) evaluate.Post
+evaluate-pack-requires-3 t c κs = tt
+
 evaluate-returns : (t : ℕ) → evaluate-lts.Need-returns (calls t) (evaluate-at t) evaluate.Post
 evaluate-returns t c =
-    of-row t (c .before .before) (kind-arm (expr-arms _ _ .0) _ (c .before .match .keys1)) (valued-constant _ _ _)
+    let told = c .before in
+    of-row t (told .before .before) (kind-arm (expr-arms _ _ .0) _ (told .before .match .keys1)) (c .pack .ensures ∙ valued-constant _ _ _)
 
 evaluate-returns-2 : (t : ℕ) → evaluate-lts.Need-returns-2 (calls t) (evaluate-at t) evaluate.Post
 evaluate-returns-2 t c =
@@ -124,14 +147,17 @@ evaluate-returns-2 t c =
 
 evaluate-returns-3 : (t : ℕ) → evaluate-lts.Need-returns-3 (calls t) (evaluate-at t) evaluate.Post
 evaluate-returns-3 t c =
-    let both = c .before .before in
-    let told = both .before .before in
+    let right = c .before .before .before in
+    let left = right .before .before in
+    let told = left .before .before in
     let here = told .before .before in
     of-row t here (kind-arm (expr-arms _ _ .2) _ (told .before .match .keys3))
-    (valued-binary _ _ _ _ _ (both .before .evaluate-lent .ensures) (both .evaluate-lent2 .ensures) (c .before .operated .ensures) (c .joined .ensures))
+    (c .pack2 .ensures
+    ∙ valued-binary _ _ _ _ _ (left .unpack .ensures ∙ left .before .evaluate-lent .ensures) (right .unpack2 .ensures ∙ right .before .evaluate-lent2 .ensures) (c .before .before .operated .ensures) (c .before .joined .ensures))
 
 evaluate-returns-4 : (t : ℕ) → evaluate-lts.Need-returns-4 (calls t) (evaluate-at t) evaluate.Post
-evaluate-returns-4 t c = of-row t (c .before) (kind-arm (expr-arms _ _ .3) _ (c .match .keys4)) (valued-constant _ _ _)
+evaluate-returns-4 t c =
+    of-row t (c .before .before) (kind-arm (expr-arms _ _ .3) _ (c .before .match .keys4)) (c .pack3 .ensures ∙ valued-constant _ _ _)
 
 pub +evaluate-lent-spec : {M : Type 1} → statement M
 +evaluate-lent-spec = close μ-evaluate λ t. evaluate-lts.spec (calls t)
@@ -139,13 +165,18 @@ pub +evaluate-lent-spec : {M : Type 1} → statement M
     evaluate.Post
     (evaluate-read-row-requires t)
     (evaluate-enum-told t)
+    (evaluate-pack-requires t)
     (evaluate-enum-told-2 t)
     (evaluate-read-variable-requires t)
     (evaluate-enum-told-3 t)
     (evaluate-evaluate-requires t)
+    (evaluate-unpack-requires t)
     (evaluate-evaluate-requires-2 t)
+    (evaluate-unpack-requires-2 t)
     (evaluate-operated-requires t)
     (evaluate-joined-requires t)
+    (evaluate-pack-requires-2 t)
+    (evaluate-pack-requires-3 t)
     (evaluate-returns t)
     (evaluate-returns-2 t)
     (evaluate-returns-3 t)

@@ -16,19 +16,36 @@ has-mark-requires c κs = search needs
 only-mark-requires : tie.Need-only-mark-requires
 only-mark-requires c κs = search needs
 
+pack-requires : tie.Need-pack-requires
+pack-requires c κs = search needs
+
 returns : tie.Need-returns
 returns c =
-    let marked = c .before in
+    let marked = c .before .before in
     let start = marked .before .before .before in
-    valued-marked (start .args .words .now) (start .args .marks) (start .args .v % width) (sym (marked .before .has-mark .ensures) ∙ marked .if1 .taken)
-    (marked .before .before .read-lent .ensures) (c .only-mark .ensures)
+    c .pack .ensures
+    ∙ valued-marked (start .args .words .now) (start .args .marks) (start .args .v % width) (sym (marked .before .has-mark .ensures) ∙ marked .if1 .taken)
+    (marked .before .before .read-lent .ensures) (c .before .only-mark .ensures)
+
+pack-requires-2 : tie.Need-pack-requires-2
+pack-requires-2 c κs = search needs
 
 returns-2 : tie.Need-returns-2
 returns-2 c =
-    let start = c .before .before .before in
-    valued-unmarked (start .args .words .now) (start .args .marks) (start .args .v % width) (sym (c .before .has-mark .ensures) ∙ c .if1 .left)
-    (c .before .before .read-lent .ensures)
+    let asked = c .before .before in
+    let start = asked .before .before in
+    c .pack2 .ensures
+    ∙ valued-unmarked (start .args .words .now) (start .args .marks) (start .args .v % width) (sym (asked .has-mark .ensures) ∙ c .before .if1 .left)
+    (asked .before .read-lent .ensures)
 
 pub read-variable-spec : {M : Type 1} → statement M
 read-variable-spec =
-    tie.close (tie.spec read-lent-requires has-mark-requires only-mark-requires returns returns-2)
+    tie.close
+    (tie.spec
+    read-lent-requires
+    has-mark-requires
+    only-mark-requires
+    pack-requires
+    returns
+    pack-requires-2
+    returns-2)
