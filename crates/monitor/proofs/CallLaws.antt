@@ -11,12 +11,12 @@ use Rattle.rules.specs.declared.Answer.{Answer}
 use Rattle.rules.specs.declared.Ended.{Ended}
 use Rattle.rules.specs.declared.Judged.{Judged}
 use Rattle.rules.specs.declared.Row.{Row}
-use Rattle.rules.specs.Limits.{width, mostTraceWords}
+use Rattle.rules.specs.Limits.{width, mostTraceWords, mostNesting}
 use Rattle.rules.specs.Rows.{isStatement, rowsOf, rowAt}
 use Rattle.rules.specs.Trees.{recipe, stmtAt}
 use Rattle.rules.specs.Judging.{judge}
 use Rattle.rules.specs.Running.{Item, statement, Record}
-use Rattle.rules.specs.Bounds.{Bounds}
+use Rattle.rules.specs.Bounds.{mostPending, Bounds}
 use Rattle.rules.specs.Sound.{Sound}
 use Rattle.rules.specs.Answers.{Whole, saidOfRun, answer, traceWordsOf, traceAfter, toldOf, telling, termsOf}
 use Rattle.rules.proofs.RunLaws.{state, final}
@@ -37,7 +37,7 @@ use Rattle.monitor.specs.Going.{shown, Went}
 abbrev pub startHeld : ℕ → Held
 startHeld marks = record { pending = 1; pile = 0; records = 0; marks = marks }
 
-module _ (words m : List ℕ) (l : ℕ) (ok : judge words ≡ Judged.Accepted) (e p t : List ℕ) (long : length e ≡ 1025) where
+module _ (words m : List ℕ) (l : ℕ) (ok : judge words ≡ Judged.Accepted) (e p t : List ℕ) (long : length e ≡ mostPending) where
   last-row : ℕ
   last-row = length (rowsOf words) - 1
 
@@ -60,7 +60,7 @@ module _ (words m : List ℕ) (l : ℕ) (ok : judge words ≡ Judged.Accepted) (
 
   -- the arrays from which a run of an accepted table starts
   pub start-holds :
-      (rows : ℕ) → rows ≡ length words / 4 → length m ≡ width → l < 2 ^ width → length p ≡ 8
+      (rows : ℕ) → rows ≡ length words / 4 → length m ≡ width → l < 2 ^ width → length p ≡ mostNesting
       → Holds (rowsOf words) m (set e 0 rows) p t (startHeld l)
   start-holds rows count whole small plong =
       let some : 0 < length (rowsOf words) = sound .some in

@@ -1,5 +1,5 @@
 -- Every step of a run keeps its state within bounds, and so is the state from which an accepted table's recipe starts.
-use Prim.Native.Nat.{ℕ, zero, suc, _+_, _-_, _*_, _^_, _≤_, _<_}
+use Prim.Native.Nat.{ℕ, zero, suc, _+_, _-_, _^_, _≤_, _<_}
 use native.Mathlib.Nat.{not-suc-le-zero}
 use native.Mathlib.Omega.{arith}
 use mathlib.Core.Bool.{Bool, true, false, _||_}
@@ -20,7 +20,7 @@ use Rattle.rules.proofs.JudgeLaws.{accepted-sound}
 use Rattle.rules.proofs.TreeLaws.{EachKind, stmt-induction, recipe-law}
 use Rattle.rules.proofs.RangeLaws.{recipe-range}
 use Rattle.rules.proofs.RunInvariants.{Keeps}
-use Rattle.rules.specs.Bounds.{need, closes, Roomy, Small, Bounds}
+use Rattle.rules.specs.Bounds.{need, mostPending, closes, Roomy, Small, Bounds}
 
 pub need-pos : (s : Stmt) → 1 ≤ need s
 need-pos skip = omega arith
@@ -30,9 +30,9 @@ need-pos (if e s t) = omega arith
 need-pos (while e s) = omega arith
 need-pos (output c e row) = omega arith
 
--- two items for each row up to the statement's own
-two-a-row : EachKind (λ i s. need s ≤ 2 * (i + 1))
-two-a-row = record {
+-- an item for each row up to the statement's own, and one for each level of its nesting
+one-a-row : EachKind (λ i s. need s ≤ i + 1 + nesting s)
+one-a-row = record {
   of-skip = λ i. omega arith;
   of-assign = λ i v e h. omega arith;
   of-sequence = λ i j k s t hj hk p q. omega arith;
@@ -122,7 +122,7 @@ few-closes [] roomy = omega arith
 few-closes (statement s ∷ k) roomy = omega (arith, roomy .0)
 few-closes (close ∷ k) roomy = roomy .0
 
-pub few-pending : (k : List Item) → Roomy k → length k ≤ 2 * mostRows
+pub few-pending : (k : List Item) → Roomy k → length k ≤ mostPending
 few-pending [] roomy = omega arith
 few-pending (statement s ∷ k) roomy = omega (arith, roomy .1, need-pos s)
 few-pending (close ∷ k) roomy = omega (arith, roomy .1)
@@ -139,8 +139,8 @@ bounds-start words memory marks e small =
     let few : length (rowsOf words) ≤ mostRows = sound .few in
     let in-table : length (rowsOf words) - 1 < length (rowsOf words) = omega arith in
     let flat : nesting (stmtAt (rowsOf words) (length (rowsOf words) - 1)) ≤ mostNesting = sound .depth (length (rowsOf words) - 1) in-table .flat in
-    let enough : need (stmtAt (rowsOf words) (length (rowsOf words) - 1)) ≤ 2 * (length (rowsOf words) - 1 + 1) =
-    stmt-induction (rowsOf words) sound (λ i s. need s ≤ 2 * (i + 1)) two-a-row (length (rowsOf words) - 1) in-table
+    let enough : need (stmtAt (rowsOf words) (length (rowsOf words) - 1)) ≤ length (rowsOf words) - 1 + 1 + nesting (stmtAt (rowsOf words) (length (rowsOf words) - 1)) =
+    stmt-induction (rowsOf words) sound (λ i s. need s ≤ i + 1 + nesting s) one-a-row (length (rowsOf words) - 1) in-table
     in
     record {
       marks = small;
@@ -148,7 +148,7 @@ bounds-start words memory marks e small =
       sets = tt;
       roomy = (
         subst (λ (s : Stmt). 0 + nesting s ≤ mostNesting) (sym (recipe-law (rowsOf words))) (omega arith),
-        subst (λ (s : Stmt). 0 + need s ≤ 2 * mostRows) (sym (recipe-law (rowsOf words))) (omega arith),
+        subst (λ (s : Stmt). 0 + need s ≤ mostPending) (sym (recipe-law (rowsOf words))) (omega arith),
         recipe-range words e,
         tt,
       );

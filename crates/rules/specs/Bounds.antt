@@ -1,6 +1,6 @@
 -- What every state of a run of an accepted table keeps to: the words in which laws and private contracts speak of the room that
 -- the code's arrays need. Nothing of document 01 is decided here.
-use Prim.Native.Nat.{ℕ, _+_, _*_, _^_, _≤_, _<_, max}
+use Prim.Native.Nat.{ℕ, _+_, _^_, _≤_, _<_, max}
 use mathlib.Core.List.{List, [], _∷_}
 use lib.ListN.{length}
 use Rattle.rules.specs.Limits.{width, mostRows, mostNesting}
@@ -17,6 +17,10 @@ need (if e s t) = max (need s) (need t) + 1
 need (while e s) = need s + 2
 need (output c e row) = 1
 
+-- an accepted table's run has so many items pending at most: one for each row, and one for each level of nesting
+abbrev pub mostPending : ℕ
+mostPending = mostRows + mostNesting
+
 -- the closes that are pending
 abbrev pub closes : List Item → ℕ
 closes [] = 0
@@ -27,8 +31,8 @@ closes (close ∷ k) = closes k + 1
 abbrev pub Roomy : List Item → Type 0
 Roomy [] = Unit {0}
 Roomy (statement s ∷ k) =
-    (closes k + nesting s ≤ mostNesting) × (length k + need s ≤ 2 * mostRows) × (mayAssign s < 2 ^ width) × Roomy k
-Roomy (close ∷ k) = (closes k + 1 ≤ mostNesting) × (length k + 1 ≤ 2 * mostRows) × Roomy k
+    (closes k + nesting s ≤ mostNesting) × (length k + need s ≤ mostPending) × (mayAssign s < 2 ^ width) × Roomy k
+Roomy (close ∷ k) = (closes k + 1 ≤ mostNesting) × (length k + 1 ≤ mostPending) × Roomy k
 
 abbrev pub Small : List ℕ → Type 0
 Small [] = Unit {0}

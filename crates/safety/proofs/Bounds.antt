@@ -1,5 +1,5 @@
 -- What the code's arrays need: in every state that a run of an accepted table reaches, marks and pushed sets are in range,
--- the pile has at most as many sets as the nesting allows, and at most two items are pending for each row.
+-- the pile has at most as many sets as the nesting allows, and at most one item is pending for each row and each level of nesting.
 use native.Mathlib.Omega.{arith}
 use mathlib.Core.Path.{sym, subst}
 use Rattle.rules.specs.Rows.{rowsOf}

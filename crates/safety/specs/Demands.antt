@@ -8,7 +8,8 @@ use lib.ListN.{length, getD}
 use Rattle.rules.specs.declared.Judged.{Judged}
 use Rattle.rules.specs.declared.Ended.{Ended}
 use Rattle.rules.specs.declared.Checked.{Checked}
-use Rattle.rules.specs.Limits.{width, mostRows, mostNesting}
+use Rattle.rules.specs.Limits.{width, mostNesting}
+use Rattle.rules.specs.Bounds.{mostPending}
 use Rattle.rules.specs.Rows.{rowsOf}
 use Rattle.rules.specs.Trees.{Stmt, recipe}
 use Rattle.rules.specs.Judging.{judge}
@@ -127,7 +128,7 @@ pub record Bounded (σ : State) : Type 0 where
   pub marks-small : σ .marks < 2 ^ width
   pub pile-low : length (σ .pile) ≤ mostNesting
   pub pile-small : (i : ℕ) → i < length (σ .pile) → getD (σ .pile) i 0 < 2 ^ width
-  pub pending-few : length (σ .pending) ≤ 2 * mostRows
+  pub pending-few : length (σ .pending) ≤ mostPending
 
 abbrev pub RunsStayBounded : Type 0
 RunsStayBounded =

@@ -11,14 +11,14 @@ use lib.ListN.{length, getD, set}
 use Rattle.rules.specs.declared.Kind.{Kind}
 use Rattle.rules.specs.declared.Row.{Row}
 use Rattle.rules.specs.declared.Ended.{Ended}
-use Rattle.rules.specs.Limits.{width}
+use Rattle.rules.specs.Limits.{width, mostNesting}
 use Rattle.rules.specs.Marks.{none, put, union, provisional}
 use Rattle.rules.specs.Answers.{termsOf}
 use Rattle.rules.specs.Rows.{isStatement, rowAt}
 use Rattle.rules.specs.Trees.{Expr, Stmt, if, while, output, stmtAt, exprAt, nesting}
 use Rattle.rules.specs.Values.{value, holds, level, mayAssign}
 use Rattle.rules.specs.Running.{Item, statement, close, context}
-use Rattle.rules.specs.Bounds.{need}
+use Rattle.rules.specs.Bounds.{need, mostPending}
 use Rattle.rules.proofs.BoundLaws.{need-pos, few-closes, few-pending}
 use Rattle.rules.proofs.StatementLaws.{Below, is-skip, is-assign, is-if, is-while, is-output}
 use Rattle.step.specs.declared.Held.{Held}
@@ -197,10 +197,10 @@ module _ (rows : List Row) (w e p t : List ℕ) (h : Held) (at : Holds rows w e 
 -- ---- the step as a whole
 
 module _ (rows : List Row) (w e p t : List ℕ) (h : Held) (at : Holds rows w e p t h) where
-  pub few-entries : h .pending ≤ 1024
+  pub few-entries : h .pending ≤ mostPending
   few-entries = omega (arith, few-pending (itemsOf rows e (h .pending)) (at .bounds .roomy), items-length rows e (h .pending))
 
-  pub few-sets : h .pile ≤ 8
+  pub few-sets : h .pile ≤ mostNesting
   few-sets =
       omega (arith, few-closes (itemsOf rows e (h .pending)) (at .bounds .roomy), at .bounds .pile, sets-length p (h .pile))
 

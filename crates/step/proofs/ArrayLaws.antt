@@ -12,7 +12,7 @@ use lib.ListN.{length, getD, set, take, drop, length-set, length-append, length-
 use lib.Seq.{getD-set-same, getD-set-other, take-suc, getD-drop, ext-getD}
 use borrow.Author.Tests.{eq-eqb, ne-eqb}
 use Rattle.rules.specs.declared.Row.{Row}
-use Rattle.rules.specs.Limits.{width}
+use Rattle.rules.specs.Limits.{width, mostNesting}
 use Rattle.rules.specs.Marks.{put, provisional}
 use Rattle.rules.specs.Trees.{Expr, stmtAt}
 use Rattle.rules.specs.Values.{value, holds, level}
@@ -22,6 +22,7 @@ use Rattle.rules.proofs.AnswerLaws.{trace-words-none, trace-words-snoc, trace-a
 use Rattle.expression.specs.declared.values.Valued.{Valued}
 use Rattle.expression.specs.Valued.{valuedOf}
 use Rattle.rules.specs.Running.{Item, statement, close, context, push}
+use Rattle.rules.specs.Bounds.{mostPending}
 use Rattle.step.specs.Denoted.{itemOf, itemsOf, setsOf, recordsOf, Entry, Entries}
 use Rattle.step.specs.Turns.{Kept, Ready, Opened}
 use Rattle.step.specs.declared.Held.{Held}
@@ -195,7 +196,7 @@ module _ (pile : List ℕ) (n level x : ℕ) where
 
 -- ---- what an if or while opens
 
-module _ (rows : List Row) (e : List ℕ) (n : ℕ) (long : length e ≡ 1025) (few : n < 1025) (named : Entries rows e n) where
+module _ (rows : List Row) (e : List ℕ) (n : ℕ) (long : length e ≡ mostPending) (few : n < mostPending) (named : Entries rows e n) where
   -- a close on top
   close-items : itemsOf rows (set e n 0) (n + 1) ≡ close ∷ itemsOf rows e n
   close-items = items-push rows e n 0 (omega arith) ∙ ap (λ (x : Item). x ∷ itemsOf rows e n) (item-close rows 0 refl)
@@ -204,21 +205,21 @@ module _ (rows : List Row) (e : List ℕ) (n : ℕ) (long : length e ≡ 1025) (
   close-named = entries-push rows e n 0 (omega arith) (λ some. absurd (some refl)) named
 
   -- a close, and a statement on top of it
-  two-items : (x : ℕ) → n + 1 < 1025 → itemsOf rows (set (set e n 0) (n + 1) (x + 1)) (n + 1 + 1) ≡ statement (stmtAt rows x) ∷ close ∷ itemsOf rows e n
+  two-items : (x : ℕ) → n + 1 < mostPending → itemsOf rows (set (set e n 0) (n + 1) (x + 1)) (n + 1 + 1) ≡ statement (stmtAt rows x) ∷ close ∷ itemsOf rows e n
   two-items x h =
       items-push rows (set e n 0) (n + 1) (x + 1) (omega (arith, length-set e n 0))
       ∙ ap₂ (λ (y : Item) (k : List Item). y ∷ k) (item-row rows x) close-items
 
-  two-named : (x : ℕ) → n + 1 < 1025 → Entry rows (x + 1) → Entries rows (set (set e n 0) (n + 1) (x + 1)) (n + 1 + 1)
+  two-named : (x : ℕ) → n + 1 < mostPending → Entry rows (x + 1) → Entries rows (set (set e n 0) (n + 1) (x + 1)) (n + 1 + 1)
   two-named x h entry = entries-push rows (set e n 0) (n + 1) (x + 1) (omega (arith, length-set e n 0)) entry close-named
 
-  two-long : (x : ℕ) → length (set (set e n 0) (n + 1) (x + 1)) ≡ 1025
+  two-long : (x : ℕ) → length (set (set e n 0) (n + 1) (x + 1)) ≡ mostPending
   two-long x = length-set (set e n 0) (n + 1) (x + 1) ∙ length-set e n 0 ∙ long
 
-module _ (rows : List Row) (e p : List ℕ) (h : Held) (level pushed : ℕ) (p′ : List ℕ) (height : ℕ) (long : length p′ ≡ 8)
+module _ (rows : List Row) (e p : List ℕ) (h : Held) (level pushed : ℕ) (p′ : List ℕ) (height : ℕ) (long : length p′ ≡ mostNesting)
     (sets : setsOf p′ height ≡ push (provisional level || context (setsOf p (h .pile))) pushed (setsOf p (h .pile))) where
   opened :
-      (k : List Item) (e′ : List ℕ) (n : ℕ) → itemsOf rows e′ n ≡ k → Entries rows e′ n → length e′ ≡ 1025
+      (k : List Item) (e′ : List ℕ) (n : ℕ) → itemsOf rows e′ n ≡ k → Entries rows e′ n → length e′ ≡ mostPending
       → Opened rows p h k level pushed e′ p′ (record { pending = n; pile = height; records = h .records; marks = h .marks })
   opened k e′ n items named entries-long = record {
     items = items;
@@ -238,7 +239,7 @@ module _ (rows : List Row) (e p : List ℕ) (h : Held) (level pushed : ℕ) (p�
       (record { pending = h .pending + 1; pile = height; records = h .records; marks = h .marks })
   opened-branch taken ready entry =
       let some : 0 < h .pending = ready .some in
-      let few : h .pending + 1 ≤ 1025 = ready .few in
+      let few : h .pending + 1 ≤ mostPending = ready .few in
       let m : ℕ = h .pending - 1 in
       let back : m + 1 ≡ h .pending = omega arith in
       let named : Entries rows e m = entries-rest rows e m (subst (Entries rows e) (sym back) (ready .named)) in
@@ -257,7 +258,7 @@ module _ (rows : List Row) (e p : List ℕ) (h : Held) (level pushed : ℕ) (p�
       (record { pending = h .pending; pile = height; records = h .records; marks = h .marks })
   opened-leave ready =
       let some : 0 < h .pending = ready .some in
-      let few : h .pending + 0 ≤ 1025 = ready .few in
+      let few : h .pending + 0 ≤ mostPending = ready .few in
       let m : ℕ = h .pending - 1 in
       let back : m + 1 ≡ h .pending = omega arith in
       let named : Entries rows e m = entries-rest rows e m (subst (Entries rows e) (sym back) (ready .named)) in
@@ -275,7 +276,7 @@ module _ (rows : List Row) (e p : List ℕ) (h : Held) (level pushed : ℕ) (p�
       (set (set e (h .pending) 0) (h .pending + 1) (body + 1)) p′
       (record { pending = h .pending + 2; pile = height; records = h .records; marks = h .marks })
   opened-turn body ready entry =
-      let few : h .pending + 2 ≤ 1025 = ready .few in
+      let few : h .pending + 2 ≤ mostPending = ready .few in
       let two : h .pending + 1 + 1 ≡ h .pending + 2 = omega arith in
       subst
       (λ (q : ℕ). Opened rows p h (statement (stmtAt rows body) ∷ close ∷ itemsOf rows e (h .pending)) level pushed

@@ -10,7 +10,7 @@ use lib.ListN.{length, getD, set, length-set}
 use borrow.Author.Tests.{lt-ltb, le-ltb}
 use Rattle.rules.specs.declared.Row.{Row}
 use Rattle.rules.specs.declared.Ended.{Ended}
-use Rattle.rules.specs.Limits.{width}
+use Rattle.rules.specs.Limits.{width, mostNesting}
 use Rattle.rules.specs.Rows.{isStatement, rowAt}
 use Rattle.rules.specs.Marks.{none, put, union, provisional}
 use Rattle.rules.specs.Trees.{Expr, Stmt, skip, assign, sequence, if, while, output, stmtAt, nesting}
@@ -18,7 +18,7 @@ use Rattle.rules.specs.Values.{value, holds, level, mayAssign}
 use Rattle.rules.specs.Running.{Item, statement, close, Record, Terms, context, push, outcome}
 use Rattle.rules.specs.declared.Kind.{Kind}
 use Rattle.rules.specs.Sound.{Sound}
-use Rattle.rules.specs.Bounds.{need, Roomy, Bounds}
+use Rattle.rules.specs.Bounds.{mostPending, need, Roomy, Bounds}
 use Rattle.rules.proofs.StatementLaws.{is-sequence}
 use Rattle.rules.specs.Answers.{reached, termsOf}
 use Rattle.rules.proofs.RunLaws.{state, final, run-sequence, run-skip, run-assign, run-close, run-close-empty, run-then, run-else, run-turn, run-leave, run-denied, run-roomless, run-record}
@@ -56,7 +56,7 @@ entry-of rows row within sort some =
 pub entry-close : (rows : List Row) → Entry rows 0
 entry-close rows some = absurd (some refl)
 
-pub apart-none : (rows : List Row) (e : List ℕ) (n : ℕ) → 0 < n → Entries rows e n → length e ≡ 1025 → Apart rows e n e n
+pub apart-none : (rows : List Row) (e : List ℕ) (n : ℕ) → 0 < n → Entries rows e n → length e ≡ mostPending → Apart rows e n e n
 apart-none rows e n some named long = record {
   some = some;
   same = λ terms b m l p r s. refl;
@@ -76,7 +76,7 @@ apart-then rows e e₁ e₂ n n₁ n₂ f g = record {
 
 -- one sequence: its second statement in its place, and its first on top
 pub apart-one :
-    (rows : List Row) (e : List ℕ) (n a c : ℕ) → n + 1 < 1025 → length e ≡ 1025 → Entries rows e (n + 1) → getD e n 0 ≢ 0
+    (rows : List Row) (e : List ℕ) (n a c : ℕ) → n + 1 < mostPending → length e ≡ mostPending → Entries rows e (n + 1) → getD e n 0 ≢ 0
     → stmtAt rows (getD e n 0 - 1) ≡ sequence (stmtAt rows a) (stmtAt rows c) → Entry rows (a + 1) → Entry rows (c + 1)
     → Apart rows e (n + 1) (set (set e n (c + 1)) (n + 1) (a + 1)) (n + 1 + 1)
 apart-one rows e n a c few long named next stands first second = record {
@@ -112,7 +112,7 @@ bare k roomy = record { marks = pow-pos width; pile = omega arith; sets = tt; ro
 pub apart-more :
     (rows : List Row) → Sound rows → (e e′ : List ℕ) (n m i : ℕ) (row : Row) → Roomy (itemsOf rows e n) → Apart rows e n e′ m → Found rows e′ m i row
     → row .kind ≡ Kind.Sequence
-    → (row .p < i) × (row .q < length rows) × (m < 1024)
+    → (row .p < i) × (row .q < length rows) × (m < mostPending)
     × Apart rows e n (set (set e′ (m - 1) (row .q + 1)) m (row .p + 1)) (m + 1)
     × Found rows (set (set e′ (m - 1) (row .q + 1)) m (row .p + 1)) (m + 1) (row .p) (rowAt rows (row .p))
 apart-more rows sound e e′ n m i row roomy apart found kind =
@@ -134,7 +134,7 @@ apart-more rows sound e e′ n m i row roomy apart found kind =
     let room : Bounds (statement (sequence (stmtAt rows (row .p)) (stmtAt rows (row .q))) ∷ itemsOf rows e′ j) [] 0 [] [] =
     subst (λ (k : List Item). Bounds k [] 0 [] []) items (apart .bounds [] 0 [] [] (bare (itemsOf rows e n) roomy))
     in
-    let few : m < 1024 = omega (arith, room .roomy .1, items-length rows e′ j, need-pos (stmtAt rows (row .p))) in
+    let few : m < mostPending = omega (arith, room .roomy .1, items-length rows e′ j, need-pos (stmtAt rows (row .p))) in
     let one : Apart rows e′ (j + 1) (set (set e′ j (row .q + 1)) (j + 1) (row .p + 1)) (j + 1 + 1) =
     apart-one rows e′ j (row .p) (row .q) (omega arith) (apart .entries-long) (subst (Entries rows e′) (sym back) (apart .named)) next stands
     (entry-of rows (row .p) (omega arith) (is .1 .sort)) (entry-of rows (row .q) (omega arith) (is .2 .sort))
@@ -183,7 +183,7 @@ module _ (rows : List Row) (w e p t : List ℕ) (h : Held) (at : Holds rows w e 
       (item : Item) → itemOf rows (getD e n 0) ≡ item → (k : List Item) (w′ : List ℕ) (l : ℕ) (q : List ℕ) (r : List Record)
       → ((b s : ℕ) → final T (suc b) (state (item ∷ K) w (h .marks) P R s) ≡ final T b (state k w′ l q r (s + 1)))
       → Bounds k w′ l q r → (e′ p′ t′ : List ℕ) (h′ : Held) → itemsOf rows e′ (h′ .pending) ≡ k → h′ .marks ≡ l → setsOf p′ (h′ .pile) ≡ q
-      → recordsOf t′ (h′ .records) ≡ r → length w′ ≡ width → length e′ ≡ 1025 → length p′ ≡ 8 → Entries rows e′ (h′ .pending) → Kept t t′ (h′ .records)
+      → recordsOf t′ (h′ .records) ≡ r → length w′ ≡ width → length e′ ≡ mostPending → length p′ ≡ mostNesting → Entries rows e′ (h′ .pending) → Kept t t′ (h′ .records)
       → h .records ≤ h′ .records → h′ .records * 2 ≤ length t′ → Goes rows w e p t h w′ e′ p′ t′ h′
   goes item is k w′ l q r run bounds e′ p′ t′ h′ ek el eq er lw le lp named kept more written = record {
     step = λ b s.
@@ -247,10 +247,10 @@ module _ (rows : List Row) (w e p t : List ℕ) (h : Held) (at : Holds rows w e 
     next-bounds = front-bounds (statement s) is-next
 
     -- room for what the statement opens: on the pile, and among the pending items
-    pub pile-room : 1 ≤ nesting s → h .pile < 8
+    pub pile-room : 1 ≤ nesting s → h .pile < mostNesting
     pile-room deep = omega (arith, next-bounds .roomy .0, next-bounds .pile, sets-length p (h .pile))
 
-    pub pending-room : n + need s ≤ 1024
+    pub pending-room : n + need s ≤ mostPending
     pending-room = omega (arith, next-bounds .roomy .1, items-length rows e n)
 
   pub skip-law :

@@ -6,11 +6,11 @@ use mathlib.Core.Path.{_≡_}
 use lib.Dec.{eqb}
 use lib.ListN.{length, getD}
 use Rattle.rules.specs.declared.Row.{Row}
-use Rattle.rules.specs.Limits.{width}
+use Rattle.rules.specs.Limits.{width, mostNesting}
 use Rattle.rules.specs.Rows.{isStatement, rowAt}
 use Rattle.rules.specs.Trees.{stmtAt}
 use Rattle.rules.specs.Running.{Item, statement, close, Record, State}
-use Rattle.rules.specs.Bounds.{Bounds}
+use Rattle.rules.specs.Bounds.{mostPending, Bounds}
 use Rattle.rules.specs.Sound.{Sound}
 use Rattle.step.specs.declared.Held.{Held}
 
@@ -56,8 +56,8 @@ Entries rows entries (suc n) = Entry rows (getD entries n 0) × Entries rows ent
 pub record Holds (rows : List Row) (words entries pile trace : List ℕ) (held : Held) : Type 0 where
   pub sound : Sound rows
   pub words-long : length words ≡ width
-  pub entries-long : length entries ≡ 1025
-  pub pile-long : length pile ≡ 8
+  pub entries-long : length entries ≡ mostPending
+  pub pile-long : length pile ≡ mostNesting
   pub named : Entries rows entries (held .pending)
   pub bounds : Bounds (itemsOf rows entries (held .pending)) words (held .marks) (setsOf pile (held .pile)) (recordsOf trace (held .records))
   pub written : held .records * 2 ≤ length trace

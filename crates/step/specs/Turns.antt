@@ -5,6 +5,7 @@ use lib.Dec.{eqb}
 use mathlib.Core.List.{List}
 use mathlib.Core.Path.{_≡_}
 use lib.ListN.{length, getD, set}
+use Rattle.rules.specs.Limits.{mostNesting}
 use Rattle.rules.specs.declared.Row.{Row}
 use Rattle.rules.specs.declared.Ended.{Ended}
 use Rattle.rules.specs.Marks.{provisional}
@@ -12,7 +13,7 @@ use Rattle.rules.specs.Rows.{rowAt}
 use Rattle.rules.specs.Trees.{Expr}
 use Rattle.rules.specs.Values.{value, level}
 use Rattle.rules.specs.Running.{Item, Record, Terms, context, push, outcome}
-use Rattle.rules.specs.Bounds.{Bounds}
+use Rattle.rules.specs.Bounds.{mostPending, Bounds}
 use Rattle.rules.specs.Sound.{Sound}
 use Rattle.rules.specs.Answers.{reached, termsOf}
 use Rattle.rules.proofs.RunLaws.{state, final}
@@ -46,11 +47,11 @@ pub record Ends (rows : List Row) (w e p t : List ℕ) (h : Held) (w′ t′ : L
 -- The arrays have room for what a statement opens: a set on the pile, and so many entries more.
 pub record Ready (rows : List Row) (e p : List ℕ) (h : Held) (more : ℕ) : Type 0 where
   pub sound : Sound rows
-  pub entries-long : length e ≡ 1025
-  pub pile-long : length p ≡ 8
-  pub low : h .pile < 8
+  pub entries-long : length e ≡ mostPending
+  pub pile-long : length p ≡ mostNesting
+  pub low : h .pile < mostNesting
   pub some : 0 < h .pending
-  pub few : h .pending + more ≤ 1025
+  pub few : h .pending + more ≤ mostPending
   pub named : Entries rows e (h .pending)
 
 -- A test of this level was looked at: these items are pending, and this set is pushed if the test or the context is
@@ -58,9 +59,9 @@ pub record Ready (rows : List Row) (e p : List ℕ) (h : Held) (more : ℕ) : Ty
 pub record Opened (rows : List Row) (p : List ℕ) (h : Held) (k : List Item) (level pushed : ℕ) (e′ p′ : List ℕ) (h′ : Held) : Type 0 where
   pub items : itemsOf rows e′ (h′ .pending) ≡ k
   pub named : Entries rows e′ (h′ .pending)
-  pub entries-long : length e′ ≡ 1025
+  pub entries-long : length e′ ≡ mostPending
   pub sets : setsOf p′ (h′ .pile) ≡ push (provisional level || context (setsOf p (h .pile))) pushed (setsOf p (h .pile))
-  pub pile-long : length p′ ≡ 8
+  pub pile-long : length p′ ≡ mostNesting
   pub records : h′ .records ≡ h .records
   pub marks : h′ .marks ≡ h .marks
 
@@ -72,7 +73,7 @@ pub record Apart (rows : List Row) (e : List ℕ) (n : ℕ) (e′ : List ℕ) (n
       → final terms b (state (itemsOf rows e n) m l p r s) ≡ final terms b (state (itemsOf rows e′ n′) m l p r s)
   pub bounds : (m : List ℕ) (l : ℕ) (p : List ℕ) (r : List Record) → Bounds (itemsOf rows e n) m l p r → Bounds (itemsOf rows e′ n′) m l p r
   pub named : Entries rows e′ n′
-  pub entries-long : length e′ ≡ 1025
+  pub entries-long : length e′ ≡ mostPending
 
 -- The item that is next is a statement, and this is its row.
 pub record Found (rows : List Row) (e : List ℕ) (n i : ℕ) (row : Row) : Type 0 where

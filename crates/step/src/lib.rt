@@ -17,20 +17,20 @@ ghost use Prim.Native.Nat.{ℕ, _+_, _-_, _*_, _%_, _<_, _≤_};
 ghost use lib.Dec.{eqb};
 ghost use lib.ListN.{length, getD, set};
 ghost use Rattle.rules.specs.declared.Kind.{Kind};
-ghost use Rattle.rules.specs.Limits.{width};
+ghost use Rattle.rules.specs.Limits.{width, mostNesting};
 ghost use Rattle.rules.specs.Marks.{none, put, union, provisional};
 ghost use Rattle.rules.specs.Rows.{rowsOf, rowAt};
 ghost use Rattle.rules.specs.Trees.{exprAt, stmtAt};
 ghost use Rattle.rules.specs.Values.{value, holds, level, mayAssign};
 ghost use Rattle.rules.specs.Running.{statement, close, context, push};
-ghost use Rattle.rules.specs.Bounds.{Roomy};
+ghost use Rattle.rules.specs.Bounds.{mostPending, Roomy};
 ghost use Rattle.rules.specs.Sound.{Sound};
 ghost use Rattle.step.specs.Denoted.{itemsOf, setsOf, Entry, Entries, Holds};
 ghost use Rattle.step.specs.Turns.{Ready, Opened, Apart, Found, PutOut, Turned};
 
-// An entry of the pending array is 0 for a close, and a statement's row and 1 for the statement. There are at most two
-// entries for each row of a table.
-pub const ENTRIES: usize = 1025;
+// An entry of the pending array is 0 for a close, and a statement's row and 1 for the statement. At most one is pending for
+// each of 512 rows and for each of 8 levels of nesting.
+pub const ENTRIES: usize = 520;
 
 // "nesting over 8": the pile holds at most as many sets.
 pub const SETS: usize = 8;
@@ -79,8 +79,8 @@ fn is_denied(channel: u32, level: Marks, height: usize) -> bool
 
 // Pushes the empty set if the test or the context is provisional, and answers the pile's height.
 fn push_none(pile: &mut [u32; SETS], height: usize, level: Marks) -> usize
-    requires { ⌜ (length (now pile) ≡ 8) × (height < 8) ⌝ }
-    ensures { λ r. ⌜ (length (now (pile .exit)) ≡ 8) × (setsOf (now (pile .exit)) r ≡ push (provisional level || context (setsOf (now (pile .entry)) height)) none (setsOf (now (pile .entry)) height)) ⌝ }
+    requires { ⌜ (length (now pile) ≡ mostNesting) × (height < mostNesting) ⌝ }
+    ensures { λ r. ⌜ (length (now (pile .exit)) ≡ mostNesting) × (setsOf (now (pile .exit)) r ≡ push (provisional level || context (setsOf (now (pile .entry)) height)) none (setsOf (now (pile .entry)) height)) ⌝ }
 {
     if is_guarded(level, height) {
         pile[height] = 0;
@@ -91,8 +91,8 @@ fn push_none(pile: &mut [u32; SETS], height: usize, level: Marks) -> usize
 
 // Pushes what the statement at a row may assign if the test or the context is provisional, and answers the pile's height.
 fn push_unrun(table: &[u32], pile: &mut [u32; SETS], height: usize, level: Marks, row: u32) -> usize
-    requires { ⌜ Sound (rowsOf (now table)) × (row < length (rowsOf (now table))) × (length (now pile) ≡ 8) × (height < 8) ⌝ }
-    ensures { λ r. ⌜ (length (now (pile .exit)) ≡ 8) × (setsOf (now (pile .exit)) r ≡ push (provisional level || context (setsOf (now (pile .entry)) height)) (mayAssign (stmtAt (rowsOf (now (table .entry))) row)) (setsOf (now (pile .entry)) height)) ⌝ }
+    requires { ⌜ Sound (rowsOf (now table)) × (row < length (rowsOf (now table))) × (length (now pile) ≡ mostNesting) × (height < mostNesting) ⌝ }
+    ensures { λ r. ⌜ (length (now (pile .exit)) ≡ mostNesting) × (setsOf (now (pile .exit)) r ≡ push (provisional level || context (setsOf (now (pile .entry)) height)) (mayAssign (stmtAt (rowsOf (now (table .entry))) row)) (setsOf (now (pile .entry)) height)) ⌝ }
 {
     if is_guarded(level, height) {
         pile[height] = may_assign(table, row);
@@ -103,7 +103,7 @@ fn push_unrun(table: &[u32], pile: &mut [u32; SETS], height: usize, level: Marks
 
 // The state after a close: the top of the pile, where there is one, is popped and added to the marks.
 fn closed_held(pile: &[u32; SETS], held: Held) -> Held
-    requires { ⌜ (length (now pile) ≡ 8) × (held .pile ≤ 8) × (0 < held .pending) ⌝ }
+    requires { ⌜ (length (now pile) ≡ mostNesting) × (held .pile ≤ mostNesting) × (0 < held .pending) ⌝ }
     ensures empty { λ r. ⌜ (held .pile ≡ 0 → r ≡ record { pending = held .pending - 1; pile = held .pile; records = held .records; marks = held .marks }) ⌝ }
     ensures popped { λ r. ⌜ ((held .pile ≡ 0 → ⊥) → r ≡ record { pending = held .pending - 1; pile = held .pile - 1; records = held .records; marks = union (getD (now (pile .entry)) (held .pile - 1) 0) (held .marks) }) ⌝ }
 {
@@ -307,7 +307,7 @@ fn take_apart(
     at: u32,
     row: Row,
 ) -> Next
-    requires { ⌜ Sound (rowsOf (now table)) × (length (now entries) ≡ 1025) × Entries (rowsOf (now table)) (now entries) pending × Roomy (itemsOf (rowsOf (now table)) (now entries) pending) × Found (rowsOf (now table)) (now entries) pending at row ⌝ }
+    requires { ⌜ Sound (rowsOf (now table)) × (length (now entries) ≡ mostPending) × Entries (rowsOf (now table)) (now entries) pending × Roomy (itemsOf (rowsOf (now table)) (now entries) pending) × Found (rowsOf (now table)) (now entries) pending at row ⌝ }
     ensures { λ r. ⌜ Apart (rowsOf (now (table .entry))) (now (entries .entry)) pending (now (entries .exit)) (r .pending) × Found (rowsOf (now (table .entry))) (now (entries .exit)) (r .pending) (r .at) (r .row) × (r .row .kind ≡ Kind.Sequence → ⊥) ⌝ }
 {
     let mut n = pending;

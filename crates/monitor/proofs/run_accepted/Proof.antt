@@ -2,7 +2,9 @@
 use native.Mathlib.Omega.{arith}
 use mathlib.Core.Path.{refl}
 use lib.ListN.{replicate}
+use Rattle.rules.specs.Limits.{mostNesting}
 use Rattle.rules.specs.Rows.{rowsOf}
+use Rattle.rules.specs.Bounds.{mostPending}
 use Rattle.rules.proofs.JudgeLaws.{accepted-sound, accepted-count}
 use Rattle.monitor.proofs.CallLaws.{start-holds, ran-answer, ran-told}
 use borrow.Author.Needs.{needs}
@@ -22,7 +24,7 @@ go-on-requires : tie.Need-go-on-requires
 go-on-requires c κs =
     let start = c .before .before .before .before .before .before .before in
     let a = start .args in
-    start-holds (a .table .now) (a .memory .words) (a .marks) (start .pre .0) (replicate 1025 0) (replicate 8 0) (a .trace .now) refl _ refl (search needs) (start .fits .marks .fits) refl
+    start-holds (a .table .now) (a .memory .words) (a .marks) (start .pre .0) (replicate mostPending 0) (replicate mostNesting 0) (a .trace .now) refl _ refl (search needs) (start .fits .marks .fits) refl
 
 cast-t14 : tie.Need-cast-t14
 cast-t14 c = search needs
@@ -36,7 +38,7 @@ returns c =
     let a = start .args in
     let went = c .before .before .before .go-on in
     ran-told (a .table .now) (a .memory .words) (a .marks) (a .budget) (a .trace .now) _ _ (went .result)
-    (ran-answer (a .table .now) (a .memory .words) (a .marks) (start .pre .0) (replicate 1025 0) (replicate 8 0) (a .trace .now) refl _ refl (start .pre .1) (a .budget) _ _ (went .result) (went .ensures))
+    (ran-answer (a .table .now) (a .memory .words) (a .marks) (start .pre .0) (replicate mostPending 0) (replicate mostNesting 0) (a .trace .now) refl _ refl (start .pre .1) (a .budget) _ _ (went .result) (went .ensures))
     (went .ensures .kept) (went .ensures .written) _ refl refl refl refl refl
 
 pub run-accepted-spec : {M : Type 1} → statement M
