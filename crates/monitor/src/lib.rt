@@ -49,7 +49,7 @@ fn end_run(ended: Ended, steps: u32, held: Held) -> Reached
 fn go_on(
     table: &[u32],
     words: &mut [u32; VARIABLES],
-    entries: &mut [u32; ENTRIES],
+    entries: &mut [u16; ENTRIES],
     pile: &mut [u32; SETS],
     trace: &mut [u32],
     held: Held,
@@ -108,9 +108,9 @@ fn run_accepted(
     ensures { λ r. ⌜ (toldOf r ≡ telling (answer (now (table .entry)) (memory .words) marks budget (length (now (trace .entry))))) × (now (trace .exit) ≡ traceAfter (answer (now (table .entry)) (memory .words) marks budget (length (now (trace .entry))) .records) (now (trace .entry))) ⌝ }
 {
     let mut words = memory.words;
-    let mut entries = [0u32; ENTRIES];
+    let mut entries = [0u16; ENTRIES];
     let mut pile = [0u32; SETS];
-    entries[0] = (table.len() / ROW_WORDS) as u32;
+    entries[0] = (table.len() / ROW_WORDS) as u16;
     let held = Held {
         pending: 1,
         pile: 0,
@@ -127,10 +127,11 @@ fn run_accepted(
         budget,
     );
     let ended = reached.ended;
+    let records = reached.records as u32;
     Answer {
         ended,
         steps: reached.steps,
-        records: reached.records as u32,
+        records,
         memory: Memory { words },
         marks: reached.marks,
     }

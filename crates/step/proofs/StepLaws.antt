@@ -108,13 +108,17 @@ apart-one rows e n a c few long named next stands first second = record {
 bare : (k : List Item) → Roomy k → Bounds k [] 0 [] []
 bare k roomy = record { marks = pow-pos width; pile = omega arith; sets = tt; roomy = roomy }
 
--- one sequence more is taken apart, and its first statement is found on top
+-- one sequence more is taken apart: its statements stand below it, there is room, and the first of them is found on top
+pub record OneMore (rows : List Row) (e : List ℕ) (n : ℕ) (e′ : List ℕ) (m i : ℕ) (row : Row) : Type 0 where
+  pub first : row .p < i
+  pub second : row .q < length rows
+  pub room : m < mostPending
+  pub apart : Apart rows e n (set (set e′ (m - 1) (row .q + 1)) m (row .p + 1)) (m + 1)
+  pub found : Found rows (set (set e′ (m - 1) (row .q + 1)) m (row .p + 1)) (m + 1) (row .p) (rowAt rows (row .p))
+
 pub apart-more :
     (rows : List Row) → Sound rows → (e e′ : List ℕ) (n m i : ℕ) (row : Row) → Roomy (itemsOf rows e n) → Apart rows e n e′ m → Found rows e′ m i row
-    → row .kind ≡ Kind.Sequence
-    → (row .p < i) × (row .q < length rows) × (m < mostPending)
-    × Apart rows e n (set (set e′ (m - 1) (row .q + 1)) m (row .p + 1)) (m + 1)
-    × Found rows (set (set e′ (m - 1) (row .q + 1)) m (row .p + 1)) (m + 1) (row .p) (rowAt rows (row .p))
+    → row .kind ≡ Kind.Sequence → OneMore rows e n e′ m i row
 apart-more rows sound e e′ n m i row roomy apart found kind =
     let is = is-sequence rows sound i (found .within) row (found .read) kind in
     let some : 0 < m = found .some in
@@ -138,21 +142,23 @@ apart-more rows sound e e′ n m i row roomy apart found kind =
     let one : Apart rows e′ (j + 1) (set (set e′ j (row .q + 1)) (j + 1) (row .p + 1)) (j + 1 + 1) =
     apart-one rows e′ j (row .p) (row .q) (omega arith) (apart .entries-long) (subst (Entries rows e′) (sym back) (apart .named)) next stands
     (entry-of rows (row .p) (omega arith) (is .1 .sort)) (entry-of rows (row .q) (omega arith) (is .2 .sort))
-    in (
-      low,
-      omega arith,
-      few,
-      apart-then rows e e′ _ n m (m + 1) apart
-          (subst (λ (q : ℕ). Apart rows e′ q (set (set e′ j (row .q + 1)) q (row .p + 1)) (q + 1)) back one),
-      record {
+    in
+    record {
+      first = low;
+      second = omega arith;
+      room = few;
+      apart =
+          apart-then rows e e′ _ n m (m + 1) apart
+          (subst (λ (q : ℕ). Apart rows e′ q (set (set e′ j (row .q + 1)) q (row .p + 1)) (q + 1)) back one);
+      found = record {
         some = omega arith;
         next =
             ap (λ (q : ℕ). getD (set (set e′ j (row .q + 1)) m (row .p + 1)) q 0) (let g : m + 1 - 1 ≡ m = omega arith in g)
             ∙ getD-set-same (set e′ j (row .q + 1)) m (row .p + 1) 0 (omega (arith, length-set e′ j (row .q + 1), apart .entries-long));
         read = refl;
         within = omega arith;
-      },
-    )
+      };
+    }
 
 module _ (rows : List Row) (w e p t : List ℕ) (h : Held) (at : Holds rows w e p t h) (n : ℕ) (top : h .pending ≡ n + 1) where
   abbrev T : Terms

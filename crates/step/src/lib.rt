@@ -129,7 +129,7 @@ fn closed_held(pile: &[u32; SETS], held: Held) -> Held
 // provisional.
 fn open_branch(
     table: &[u32],
-    entries: &mut [u32; ENTRIES],
+    entries: &mut [u16; ENTRIES],
     pile: &mut [u32; SETS],
     held: Held,
     level: Marks,
@@ -141,7 +141,7 @@ fn open_branch(
 {
     let n = held.pending;
     entries[n - 1] = 0;
-    entries[n] = taken + 1;
+    entries[n] = (taken + 1) as u16;
     let height = push_unrun(table, pile, held.pile, level, other);
     Held {
         pending: n + 1,
@@ -155,7 +155,7 @@ fn open_branch(
 // provisional.
 fn leave_loop(
     table: &[u32],
-    entries: &mut [u32; ENTRIES],
+    entries: &mut [u16; ENTRIES],
     pile: &mut [u32; SETS],
     held: Held,
     level: Marks,
@@ -179,7 +179,7 @@ fn leave_loop(
 // or the context is provisional.
 fn turn_loop(
     table: &[u32],
-    entries: &mut [u32; ENTRIES],
+    entries: &mut [u16; ENTRIES],
     pile: &mut [u32; SETS],
     held: Held,
     level: Marks,
@@ -190,7 +190,7 @@ fn turn_loop(
 {
     let n = held.pending;
     entries[n] = 0;
-    entries[n + 1] = body + 1;
+    entries[n + 1] = (body + 1) as u16;
     let height = push_none(pile, held.pile, level);
     Held {
         pending: n + 2,
@@ -221,7 +221,7 @@ fn assign(table: &[u32], words: &mut [u32; VARIABLES], held: Held, row: Row) -> 
 fn branch(
     table: &[u32],
     words: &[u32; VARIABLES],
-    entries: &mut [u32; ENTRIES],
+    entries: &mut [u16; ENTRIES],
     pile: &mut [u32; SETS],
     held: Held,
     row: Row,
@@ -241,7 +241,7 @@ fn branch(
 fn loop_on(
     table: &[u32],
     words: &[u32; VARIABLES],
-    entries: &mut [u32; ENTRIES],
+    entries: &mut [u16; ENTRIES],
     pile: &mut [u32; SETS],
     held: Held,
     row: Row,
@@ -302,7 +302,7 @@ fn is_sequence(row: Row) -> bool
 // place, and its first on top. Answers the statement that is next then.
 fn take_apart(
     table: &[u32],
-    entries: &mut [u32; ENTRIES],
+    entries: &mut [u16; ENTRIES],
     pending: usize,
     at: u32,
     row: Row,
@@ -314,8 +314,8 @@ fn take_apart(
     let mut i = at;
     let mut here = row;
     while is_sequence(here) {
-        entries[n - 1] = here.q + 1;
-        entries[n] = here.p + 1;
+        entries[n - 1] = (here.q + 1) as u16;
+        entries[n] = (here.p + 1) as u16;
         n += 1;
         i = here.p;
         here = read_row(table, i);
@@ -331,7 +331,7 @@ fn take_apart(
 fn apply(
     table: &[u32],
     words: &mut [u32; VARIABLES],
-    entries: &mut [u32; ENTRIES],
+    entries: &mut [u16; ENTRIES],
     pile: &mut [u32; SETS],
     trace: &mut [u32],
     held: Held,
@@ -360,7 +360,7 @@ fn apply(
 pub fn step(
     table: &[u32],
     words: &mut [u32; VARIABLES],
-    entries: &mut [u32; ENTRIES],
+    entries: &mut [u16; ENTRIES],
     pile: &mut [u32; SETS],
     trace: &mut [u32],
     held: Held,
@@ -373,8 +373,9 @@ pub fn step(
     if entry == 0 {
         return Turn::Went(closed_held(pile, held));
     }
-    let row = read_row(table, entry - 1);
-    let next = take_apart(table, entries, n, entry - 1, row);
+    let at = entry as u32 - 1;
+    let row = read_row(table, at);
+    let next = take_apart(table, entries, n, at, row);
     let opened = Held {
         pending: next.pending,
         pile: held.pile,

@@ -26,8 +26,8 @@ go-on-requires c κs =
     let a = start .args in
     start-holds (a .table .now) (a .memory .words) (a .marks) (start .pre .0) (replicate mostPending 0) (replicate mostNesting 0) (a .trace .now) refl _ refl (search needs) (start .fits .marks .fits) refl
 
-cast-t14 : tie.Need-cast-t14
-cast-t14 c = search needs
+cast-records : tie.Need-cast-records
+cast-records c = search needs
 
 same-length : tie.Need-same-length
 same-length c = search needs
@@ -44,4 +44,4 @@ returns c =
 pub run-accepted-spec : {M : Type 1} → statement M
 run-accepted-spec =
     tie.close
-    (tie.spec cast-entries array-write-entries go-on-requires cast-t14 same-length returns)
+    (tie.spec cast-entries array-write-entries go-on-requires cast-records same-length returns)

@@ -1,4 +1,5 @@
 -- `step::open_branch` meets its contract.
+use native.Mathlib.Omega.{arith}
 use Rattle.rules.specs.Rows.{rowsOf}
 use Rattle.step.proofs.ArrayLaws.{opened-branch}
 use borrow.Author.Needs.{needs}
@@ -16,6 +17,9 @@ element-write-entries c = search needs
 
 add-entries : tie.Need-add-entries
 add-entries c = search needs
+
+cast-entries : tie.Need-cast-entries
+cast-entries c = record { fits = omega (arith, c .before .pre .0 .sound .few) }
 
 mul-entries-2 : tie.Need-mul-entries-2
 mul-entries-2 c = search needs
@@ -43,6 +47,7 @@ open-branch-spec =
     mul-entries
     element-write-entries
     add-entries
+    cast-entries
     mul-entries-2
     element-write-entries-2
     push-unrun-requires

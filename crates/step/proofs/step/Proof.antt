@@ -1,6 +1,8 @@
 -- `step::step` meets its contract.
 use native.Mathlib.Omega.{arith}
+use Prim.Native.Nat.{_-_, _<_}
 use mathlib.Core.Path.{refl}
+use lib.ListN.{length, getD}
 use Rattle.rules.specs.Rows.{rowsOf}
 use Rattle.step.proofs.ArmLaws.{few-entries, few-sets, arm-close, found-next, holds-apart, turned-apart}
 use borrow.Author.Needs.{needs}
@@ -34,17 +36,24 @@ returns c =
     let a = start .args in
     arm-close (rowsOf (a .table .now)) (a .words .now) (a .entries .now) (a .pile .now) (a .trace .now) (a .held) (start .pre .0) (start .pre .1) (c .before .before .if1 .taken) (c .closed-held .result) (c .closed-held .ensures .0) (c .closed-held .ensures .1)
 
-sub-read-row : tie.Need-sub-read-row
-sub-read-row c = search needs
-
-read-row-requires : tie.Need-read-row-requires
-read-row-requires c κs =
+-- the entry is no close, so it names a row of the table
+inside :
+    (c : tie.Else1)
+    → getD (c .before .before .before .before .args .entries .now) (c .before .before .before .before .args .held .pending - 1) 0 - 1
+    < length (rowsOf (c .before .before .before .before .args .table .now))
+inside c =
     let start = c .before .before .before .before in
     let a = start .args in
     found-next (rowsOf (a .table .now)) (a .words .now) (a .entries .now) (a .pile .now) (a .trace .now) (a .held) (start .pre .0) (start .pre .1) _ refl (c .if1 .left) .0
 
-sub-take-apart : tie.Need-sub-take-apart
-sub-take-apart c = search needs
+cast-at : tie.Need-cast-at
+cast-at c = record { fits = omega (arith, inside c, c .before .before .before .before .pre .0 .sound .few) }
+
+sub-at : tie.Need-sub-at
+sub-at c = search needs
+
+read-row-requires : tie.Need-read-row-requires
+read-row-requires c κs = inside c
 
 take-apart-requires : tie.Need-take-apart-requires
 take-apart-requires c κs =
@@ -79,9 +88,9 @@ step-spec =
     element-copy-out-entry
     closed-held-requires
     returns
-    sub-read-row
+    cast-at
+    sub-at
     read-row-requires
-    sub-take-apart
     take-apart-requires
     apply-requires
     same-length

@@ -3,7 +3,7 @@ use mathlib.Core.Path.{sym, subst}
 use native.Mathlib.Omega.{arith}
 use Rattle.rules.specs.Rows.{rowsOf}
 use Rattle.step.specs.Turns.{Apart, Found}
-use Rattle.step.proofs.StepLaws.{apart-none, apart-more}
+use Rattle.step.proofs.StepLaws.{apart-none, OneMore, apart-more}
 use Rattle.step.proofs.take_apart.Statement.{statement}
 use Rattle.step.proofs.take_apart.Tie as tie
 
@@ -24,139 +24,62 @@ is-sequence-requires : tie.Need-is-sequence-requires Inv-loop μ-loop
 is-sequence-requires c κs =
     tt
 
-add-entries : tie.Need-add-entries Inv-loop μ-loop
-add-entries c =
-    let inside = c .before in
-    let loop = inside .before .before in
+-- the row is a sequence: it is taken apart too
+more :
+    (c : tie.Then1 Inv-loop μ-loop)
+    → OneMore (rowsOf (c .before .before .before .before .args .table .now)) (c .before .before .before .before .args .entries .now)
+    (c .before .before .before .before .args .pending) (c .before .before .loop .entries) (c .before .before .loop .n)
+    (c .before .before .loop .i) (c .before .before .loop .here)
+more c =
+    let loop = c .before .before in
     let start = loop .before .before in
-    let a = start .args in
-    let more =
-    apart-more (rowsOf (a .table .now)) (start .pre .0) (a .entries .now) (loop .loop .entries) (a .pending) (loop .loop .n) (loop .loop .i)
-    (loop .loop .here) (start .pre .3) (loop .loop .inv .0) (loop .loop .inv .1) (inside .before .is-sequence .ensures .0 (inside .if1 .taken))
-    in
-    omega (arith, more .1, start .pre .0 .few)
+    apart-more _ (start .pre .0) _ _ _ _ _ _ (start .pre .3) (loop .loop .inv .0) (loop .loop .inv .1) (c .before .is-sequence .ensures .0 (c .if1 .taken))
+
+add-entries : tie.Need-add-entries Inv-loop μ-loop
+add-entries c = omega (arith, more (c .before) .second, c .before .before .before .before .before .pre .0 .few)
+
+cast-entries : tie.Need-cast-entries Inv-loop μ-loop
+cast-entries c = record { fits = omega (arith, more (c .before) .second, c .before .before .before .before .before .pre .0 .few) }
 
 sub-entries : tie.Need-sub-entries Inv-loop μ-loop
-sub-entries c =
-    let inside = c .before in
-    let loop = inside .before .before in
-    let start = loop .before .before in
-    let a = start .args in
-    let more =
-    apart-more (rowsOf (a .table .now)) (start .pre .0) (a .entries .now) (loop .loop .entries) (a .pending) (loop .loop .n) (loop .loop .i)
-    (loop .loop .here) (start .pre .3) (loop .loop .inv .0) (loop .loop .inv .1) (inside .before .is-sequence .ensures .0 (inside .if1 .taken))
-    in
-    omega (arith, loop .loop .inv .1 .some)
+sub-entries c = omega (arith, c .before .before .before .loop .inv .1 .some)
 
 mul-entries : tie.Need-mul-entries Inv-loop μ-loop
-mul-entries c =
-    let inside = c .before in
-    let loop = inside .before .before in
-    let start = loop .before .before in
-    let a = start .args in
-    let more =
-    apart-more (rowsOf (a .table .now)) (start .pre .0) (a .entries .now) (loop .loop .entries) (a .pending) (loop .loop .n) (loop .loop .i)
-    (loop .loop .here) (start .pre .3) (loop .loop .inv .0) (loop .loop .inv .1) (inside .before .is-sequence .ensures .0 (inside .if1 .taken))
-    in
-    omega (arith, more .2)
+mul-entries c = omega (arith, more (c .before) .room)
 
 element-write-entries : tie.Need-element-write-entries Inv-loop μ-loop
-element-write-entries c =
-    let inside = c .before in
-    let loop = inside .before .before in
-    let start = loop .before .before in
-    let a = start .args in
-    let more =
-    apart-more (rowsOf (a .table .now)) (start .pre .0) (a .entries .now) (loop .loop .entries) (a .pending) (loop .loop .n) (loop .loop .i)
-    (loop .loop .here) (start .pre .3) (loop .loop .inv .0) (loop .loop .inv .1) (inside .before .is-sequence .ensures .0 (inside .if1 .taken))
-    in
-    omega (arith, more .2, loop .loop .inv .0 .entries-long)
+element-write-entries c = omega (arith, more (c .before) .room, c .before .before .before .loop .inv .0 .entries-long)
 
 add-entries-2 : tie.Need-add-entries-2 Inv-loop μ-loop
 add-entries-2 c =
-    let inside = c .before .before in
-    let loop = inside .before .before in
-    let start = loop .before .before in
-    let a = start .args in
-    let more =
-    apart-more (rowsOf (a .table .now)) (start .pre .0) (a .entries .now) (loop .loop .entries) (a .pending) (loop .loop .n) (loop .loop .i)
-    (loop .loop .here) (start .pre .3) (loop .loop .inv .0) (loop .loop .inv .1) (inside .before .is-sequence .ensures .0 (inside .if1 .taken))
-    in
-    omega (arith, more .0, loop .loop .inv .1 .within, start .pre .0 .few)
+    let loop = c .before .before .before .before in
+    omega (arith, more (c .before .before) .first, loop .loop .inv .1 .within, loop .before .before .pre .0 .few)
+
+cast-entries-2 : tie.Need-cast-entries-2 Inv-loop μ-loop
+cast-entries-2 c =
+    let loop = c .before .before .before .before in
+    record { fits = omega (arith, more (c .before .before) .first, loop .loop .inv .1 .within, loop .before .before .pre .0 .few) }
 
 mul-entries-2 : tie.Need-mul-entries-2 Inv-loop μ-loop
-mul-entries-2 c =
-    let inside = c .before .before in
-    let loop = inside .before .before in
-    let start = loop .before .before in
-    let a = start .args in
-    let more =
-    apart-more (rowsOf (a .table .now)) (start .pre .0) (a .entries .now) (loop .loop .entries) (a .pending) (loop .loop .n) (loop .loop .i)
-    (loop .loop .here) (start .pre .3) (loop .loop .inv .0) (loop .loop .inv .1) (inside .before .is-sequence .ensures .0 (inside .if1 .taken))
-    in
-    omega (arith, more .2)
+mul-entries-2 c = omega (arith, more (c .before .before) .room)
 
 element-write-entries-2 : tie.Need-element-write-entries-2 Inv-loop μ-loop
 element-write-entries-2 c =
-    let inside = c .before .before in
-    let loop = inside .before .before in
-    let start = loop .before .before in
-    let a = start .args in
-    let more =
-    apart-more (rowsOf (a .table .now)) (start .pre .0) (a .entries .now) (loop .loop .entries) (a .pending) (loop .loop .n) (loop .loop .i)
-    (loop .loop .here) (start .pre .3) (loop .loop .inv .0) (loop .loop .inv .1) (inside .before .is-sequence .ensures .0 (inside .if1 .taken))
-    in
-    omega (arith, more .2, loop .loop .inv .0 .entries-long)
+    omega (arith, more (c .before .before) .room, c .before .before .before .before .loop .inv .0 .entries-long)
 
 add-n : tie.Need-add-n Inv-loop μ-loop
-add-n c =
-    let inside = c .before .before in
-    let loop = inside .before .before in
-    let start = loop .before .before in
-    let a = start .args in
-    let more =
-    apart-more (rowsOf (a .table .now)) (start .pre .0) (a .entries .now) (loop .loop .entries) (a .pending) (loop .loop .n) (loop .loop .i)
-    (loop .loop .here) (start .pre .3) (loop .loop .inv .0) (loop .loop .inv .1) (inside .before .is-sequence .ensures .0 (inside .if1 .taken))
-    in
-    omega (arith, more .2)
+add-n c = omega (arith, more (c .before .before) .room)
 
 read-row-requires : tie.Need-read-row-requires Inv-loop μ-loop
-read-row-requires c κs =
-    let inside = c .before .before in
-    let loop = inside .before .before in
-    let start = loop .before .before in
-    let a = start .args in
-    let more =
-    apart-more (rowsOf (a .table .now)) (start .pre .0) (a .entries .now) (loop .loop .entries) (a .pending) (loop .loop .n) (loop .loop .i)
-    (loop .loop .here) (start .pre .3) (loop .loop .inv .0) (loop .loop .inv .1) (inside .before .is-sequence .ensures .0 (inside .if1 .taken))
-    in
-    more .4 .within
+read-row-requires c κs = more (c .before .before) .found .within
 
 loop-less : tie.Need-loop-less Inv-loop μ-loop
-loop-less c =
-    let inside = c .before .before .before in
-    let loop = inside .before .before in
-    let start = loop .before .before in
-    let a = start .args in
-    let more =
-    apart-more (rowsOf (a .table .now)) (start .pre .0) (a .entries .now) (loop .loop .entries) (a .pending) (loop .loop .n) (loop .loop .i)
-    (loop .loop .here) (start .pre .3) (loop .loop .inv .0) (loop .loop .inv .1) (inside .before .is-sequence .ensures .0 (inside .if1 .taken))
-    in
-    more .0
+loop-less c = more (c .before .before .before) .first
 
 loop-again : tie.Need-loop-again Inv-loop μ-loop
 loop-again c =
     let inside = c .before .before .before in
-    let loop = inside .before .before in
-    let start = loop .before .before in
-    let a = start .args in
-    let more =
-    apart-more (rowsOf (a .table .now)) (start .pre .0) (a .entries .now) (loop .loop .entries) (a .pending) (loop .loop .n) (loop .loop .i)
-    (loop .loop .here) (start .pre .3) (loop .loop .inv .0) (loop .loop .inv .1) (inside .before .is-sequence .ensures .0 (inside .if1 .taken))
-    in (
-      more .3,
-      subst (Found (rowsOf (a .table .now)) _ _ _) (sym (c .read-row .ensures)) (more .4),
-    )
+    (more inside .apart, subst (Found _ _ _ _) (sym (c .read-row .ensures)) (more inside .found))
 
 returns : tie.Need-returns Inv-loop μ-loop
 returns c =
@@ -172,10 +95,12 @@ take-apart-spec =
     loop-holds
     is-sequence-requires
     add-entries
+    cast-entries
     sub-entries
     mul-entries
     element-write-entries
     add-entries-2
+    cast-entries-2
     mul-entries-2
     element-write-entries-2
     add-n

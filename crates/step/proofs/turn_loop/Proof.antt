@@ -1,4 +1,5 @@
 -- `step::turn_loop` meets its contract.
+use native.Mathlib.Omega.{arith}
 use Rattle.rules.specs.Rows.{rowsOf}
 use Rattle.step.proofs.ArrayLaws.{opened-turn}
 use borrow.Author.Needs.{needs}
@@ -13,6 +14,9 @@ element-write-entries c = search needs
 
 add-entries : tie.Need-add-entries
 add-entries c = search needs
+
+cast-entries : tie.Need-cast-entries
+cast-entries c = record { fits = omega (arith, c .before .pre .0 .sound .few) }
 
 add-entries-2 : tie.Need-add-entries-2
 add-entries-2 c = search needs
@@ -42,6 +46,7 @@ turn-loop-spec =
     mul-entries
     element-write-entries
     add-entries
+    cast-entries
     add-entries-2
     mul-entries-2
     element-write-entries-2
