@@ -2,15 +2,15 @@
 use Prim.Native.Nat.{ℕ, _+_, _*_, _<_}
 use native.Mathlib.Nat.{add-zero, mod-eq-of-lt, div-eq-of-lt, mul-add-mod-self-right, mul-add-div-right}
 use native.Mathlib.Omega.{arith}
-use mathlib.Core.Bool.{true, false}
 use mathlib.Core.List.{List}
 use mathlib.Core.Path.{_≡_, sym, ap, ap₂, _∙_}
+use lib.Bits.{bitAnd}
 use lib.ListN.{getD}
 use Rattle.rules.specs.declared.Operator.{Operator}
-use Rattle.rules.specs.Marks.{has, only, union}
+use Rattle.rules.specs.Marks.{only, union}
 use Rattle.rules.specs.Trees.{Expr, constant, variable, binary}
 use Rattle.rules.specs.Values.{operate}
-use Rattle.rules.proofs.ValueLaws.{value-constant, value-variable, value-binary, level-constant, level-marked, level-unmarked, level-binary}
+use Rattle.rules.proofs.ValueLaws.{value-constant, value-variable, value-binary, level-constant, level-variable, level-binary}
 use Rattle.expression.specs.declared.values.Valued.{Valued}
 use Rattle.expression.specs.Valued.{valuedOf, valuedIn}
 
@@ -29,15 +29,10 @@ module _ (memory : List ℕ) (marks : ℕ) where
   pub valued-constant : (c : ℕ) → record { value = c; level = 0 } ≡ valuedOf memory marks (constant c)
   valued-constant c = sym (ap₂ pair (value-constant memory c) (level-constant marks c))
 
-  pub valued-marked :
-      (v : ℕ) {value level : ℕ} → has marks v ≡ true → value ≡ getD memory v 0 → level ≡ only v
+  pub valued-variable :
+      (v : ℕ) {value level : ℕ} → value ≡ getD memory v 0 → level ≡ bitAnd marks (only v)
       → record { value = value; level = level } ≡ valuedOf memory marks (variable v)
-  valued-marked v h e f = ap₂ pair (e ∙ sym (value-variable memory v)) (f ∙ sym (level-marked marks v h))
-
-  pub valued-unmarked :
-      (v : ℕ) {value : ℕ} → has marks v ≡ false → value ≡ getD memory v 0
-      → record { value = value; level = 0 } ≡ valuedOf memory marks (variable v)
-  valued-unmarked v h e = ap₂ pair (e ∙ sym (value-variable memory v)) (sym (level-unmarked marks v h))
+  valued-variable v e f = ap₂ pair (e ∙ sym (value-variable memory v)) (f ∙ sym (level-variable marks v))
 
   pub valued-binary :
       (o : Operator) (a b : Expr) {left right : Valued} {value level : ℕ} → left ≡ valuedOf memory marks a → right ≡ valuedOf memory marks b

@@ -1,5 +1,4 @@
 // An expression's value and level.
-use leaves::marks::has_mark;
 use leaves::marks::joined;
 use leaves::marks::only_mark;
 use leaves::memory::read_lent;
@@ -59,10 +58,8 @@ fn read_variable(words: &[u32; VARIABLES], marks: Marks, v: u32) -> u64
     ensures { λ r. ⌜ valuedIn r ≡ valuedOf (now (words .entry)) marks (variable (v % width)) ⌝ }
 {
     let value = read_lent(words, v);
-    if has_mark(marks, v) {
-        return pack(value, only_mark(v));
-    }
-    pack(value, 0)
+    let level = marks & only_mark(v);
+    pack(value, level)
 }
 
 // The value and level of the expression at a row. The table's slice is lent in turn, so that a call hands on an address alone.

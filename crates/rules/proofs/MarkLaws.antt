@@ -389,6 +389,20 @@ has-bit m zero = tested-digit m ∙ ap (λ (n : ℕ). not (eqb n 0)) (sym (and-o
 has-bit m (suc i) =
     has-bit (m / 2) i ∙ ap not (sym (doubled-zero (bitAnd (m / 2) (2 ^ i)))) ∙ ap (λ (n : ℕ). not (eqb n 0)) (sym (and-power m i))
 
+-- a set and a power of 2 have in common the bit, where it is set
+pub and-bit : (m i : ℕ) → bitAnd m (2 ^ i) ≡ cond (has m i) (2 ^ i) 0
+unfolding has
+and-bit m zero = and-one m ∙ last (digit m)
+  where
+    last : (m % 2 ≡ 0) ⊎ (m % 2 ≡ 1) → m % 2 ≡ cond (eqb (m % 2) 1) 1 0
+    last (inl p) = p ∙ ap (λ (n : ℕ). cond (eqb n 1) 1 0) (sym p)
+    last (inr p) = p ∙ ap (λ (n : ℕ). cond (eqb n 1) 1 0) (sym p)
+and-bit m (suc i) = and-power m i ∙ ap (λ (n : ℕ). n * 2) (and-bit (m / 2) i) ∙ doubled (has (m / 2) i)
+  where
+    doubled : (b : Bool) → cond b (2 ^ i) 0 * 2 ≡ cond b (2 ^ suc i) 0
+    doubled true = sym (pow-suc 2 i)
+    doubled false = refl
+
 pub put-true : (m i : ℕ) → put i true m ≡ bitOr m (2 ^ i)
 unfolding put
 put-true m zero = sym (or-step m 1 ∙ ap (λ (x : ℕ). x * 2 + max (m % 2) 1) (or-zero-r (m / 2)) ∙ omega arith)

@@ -4,7 +4,8 @@ use native.Mathlib.Nat.{lt-of-le-of-lt, le-of-lt, mul-le-mul-left, mul-lt-mul-of
 use native.Mathlib.Omega.{arith}
 use mathlib.Core.Bool.{Bool, true, false, cond, _||_}
 use mathlib.Core.List.{List, [], _∷_}
-use mathlib.Core.Path.{_≡_, refl, ap}
+use mathlib.Core.Path.{_≡_, refl, sym, ap, _∙_}
+use lib.Bits.{bitAnd}
 use lib.ListN.{getD}
 use lib.Pow.{pow-pos}
 use borrow.Author.Tests.{eq-eqb, ne-eqb, lt-ltb, le-ltb}
@@ -15,7 +16,7 @@ use Rattle.rules.specs.Limits.{wordBits}
 use Rattle.rules.specs.Marks.{none, has, only, union, provisional}
 use Rattle.rules.specs.Trees.{Expr, constant, variable, binary, Stmt, skip, operatorOf, exprNode, stmtNode}
 use Rattle.rules.specs.Values.{operate, value, level, mayAssign}
-use Rattle.rules.proofs.MarkLaws.{has-only-same, has-provisional, provisional-none, provisional-union}
+use Rattle.rules.proofs.MarkLaws.{and-bit, only-power, has-only-same, has-provisional, provisional-none, provisional-union}
 use Rattle.rules.proofs.RowLaws.{Arm, kindAt, Other}
 
 -- ---- the operators by their numbers
@@ -104,13 +105,11 @@ module _ (marks : ℕ) where
   unfolding level none
   level-constant c = refl
 
-  pub level-marked : (v : ℕ) → has marks v ≡ true → level marks (variable v) ≡ only v
-  unfolding level
-  level-marked v h = ap (λ (b : Bool). cond b (only v) none) h
-
-  pub level-unmarked : (v : ℕ) → has marks v ≡ false → level marks (variable v) ≡ 0
+  -- what the marks and the set of the variable have in common
+  pub level-variable : (v : ℕ) → level marks (variable v) ≡ bitAnd marks (only v)
   unfolding level none
-  level-unmarked v h = ap (λ (b : Bool). cond b (only v) 0) h
+  level-variable v =
+      ap (λ (n : ℕ). cond (has marks v) n 0) (only-power v) ∙ sym (and-bit marks v) ∙ ap (bitAnd marks) (sym (only-power v))
 
   pub level-binary : (o : Operator) (a b : Expr) → level marks (binary o a b) ≡ union (level marks a) (level marks b)
   unfolding level
