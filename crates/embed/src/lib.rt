@@ -11,7 +11,7 @@ ghost use Prim.Native.Nat.{_≤_};
 ghost use lib.ListN.{length, take, drop};
 ghost use Rattle.rules.specs.Limits.{width};
 ghost use Rattle.rules.specs.Answers.{saidOfJudge, saidOfRun, saidOfCheck};
-ghost use Rattle.embed.specs.Calls.{numbersOf, saidWords, laid, judgeCall, checkCall, runCall};
+ghost use Rattle.embed.specs.Calls.{numbersOf, saidWords, laid, judgeLength, checkLength, runLength, judgeCall, checkCall, runCall};
 
 // What a call returns: that it has answered, or which buffer was too short.
 const ANSWERED: u32 = 0;
@@ -92,7 +92,7 @@ fn check_numbers(checked: Checked) -> Numbers
 
 // Lays the numbers over the first words of the answer.
 fn put_numbers(answer: &mut [u32], numbers: Numbers)
-    requires { ⌜ 3 ≤ length (now answer) ⌝ }
+    requires { ⌜ judgeLength ≤ length (now answer) ⌝ }
     ensures { λ _. ⌜ now (answer .exit) ≡ laid (saidWords numbers) (now (answer .entry)) ⌝ }
 {
     answer[0] = numbers.refusal;
@@ -102,7 +102,7 @@ fn put_numbers(answer: &mut [u32], numbers: Numbers)
 
 // Lays a check's numbers and marks over the first words of the answer.
 fn put_check(answer: &mut [u32], numbers: Numbers, marks: u32)
-    requires { ⌜ 4 ≤ length (now answer) ⌝ }
+    requires { ⌜ checkLength ≤ length (now answer) ⌝ }
     ensures { λ _. ⌜ now (answer .exit) ≡ laid (saidWords numbers ++ marks ∷ []) (now (answer .entry)) ⌝ }
 {
     put_numbers(answer, numbers);
@@ -111,7 +111,7 @@ fn put_check(answer: &mut [u32], numbers: Numbers, marks: u32)
 
 // Lays a run's numbers, steps, records and marks over the first words of the answer.
 fn put_run(answer: &mut [u32], numbers: Numbers, steps: u32, records: u32, marks: u32)
-    requires { ⌜ 6 ≤ length (now answer) ⌝ }
+    requires { ⌜ runLength ≤ length (now answer) ⌝ }
     ensures { λ _. ⌜ now (answer .exit) ≡ laid (saidWords numbers ++ steps ∷ records ∷ marks ∷ []) (now (answer .entry)) ⌝ }
 {
     put_numbers(answer, numbers);

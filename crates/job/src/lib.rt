@@ -27,7 +27,10 @@ pub const MOST_ROOM: u64 = 8192;
 
 const TABLE_WORDS: usize = MOST_ROWS * ROW_WORDS;
 
+// The line of the first input, and of the first row where there is no input.
 const FIRST_INPUT: u32 = 5;
+
+const FIRST_ROW: u32 = FIRST_INPUT + 1;
 
 const LACKS_FORM: u32 = 7;
 
@@ -310,7 +313,7 @@ fn fill_inputs(text: &[u8], from: usize, count: u32, words: &mut [u32; VARIABLES
             Line::Faulty(number) => {
                 return Lines::Faulty {
                     number,
-                    line: 5 + i,
+                    line: FIRST_INPUT + i,
                 };
             }
         }
@@ -396,12 +399,12 @@ fn read_table(
         Line::Faulty(number) => refused(number, FIRST_INPUT + inputs),
         Line::Number { value, next } => {
             let mut table = [0; TABLE_WORDS];
-            let rows = fill_rows(text, next, value, 6 + inputs, &mut table);
+            let rows = fill_rows(text, next, value, FIRST_ROW + inputs, &mut table);
             match rows {
                 Lines::Faulty { number, line } => refused(number, line),
                 Lines::Next(end) => {
                     if end < text.len() {
-                        return refused(LACKS_FORM, 6 + inputs + value);
+                        return refused(LACKS_FORM, FIRST_ROW + inputs + value);
                     }
                     Reading {
                         read: Read::Job {

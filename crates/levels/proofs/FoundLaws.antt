@@ -15,16 +15,6 @@ use Rattle.rules.proofs.LevelLaws.{rounds-over, rounds-rest, rounds-on}
 use Rattle.levels.specs.declared.walk.Found.{Found}
 use Rattle.levels.specs.Found.{lowerOf, lowestIn, foundOf, failedAt, checkedAt}
 
--- ---- an expression or the context
-
-pub or-true : (x c : Bool) → c ≡ true → true ≡ (x || c)
-or-true true c e = refl
-or-true false c e = sym e
-
-pub or-false : (x c : Bool) → c ≡ false → x ≡ (x || c)
-or-false true c e = refl
-or-false false c e = sym e
-
 -- ---- the lowest failing row
 
 lowest-from : (a b : ℕ) (rows : List ℕ) → lowestOf (min a b) rows ≡ min a (lowestOf b rows)
