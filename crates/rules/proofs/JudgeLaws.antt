@@ -5,16 +5,16 @@ use mathlib.Core.Bool.{Bool, true, false, cond, _||_, true≢false}
 use mathlib.Core.List.{List, [], _∷_}
 use mathlib.Core.Path.{_≡_, refl, sym, ap, _∙_}
 use mathlib.Core.Logic.{_≢_}
-use lib.Dec.{eqb, leb}
+use lib.Dec.{eqb, leb, ltb}
 use lib.ListN.{length, getD}
 use borrow.Author.Tests.{eqb-true, eqb-false, ltb-false, leb-false, not-false, eq-eqb, ne-eqb}
 use Rattle.rules.specs.declared.Role.{Role}
 use Rattle.rules.specs.declared.Row.{Row}
 use Rattle.rules.specs.declared.Judged.{Judged}
-use Rattle.rules.specs.Limits.{rowWords, mostRows}
+use Rattle.rules.specs.Limits.{rowWords, mostRows, mostHeight, mostNesting, mostLoopNesting}
 use Rattle.rules.specs.Rows.{rolesOf, rowsOf, rowOf, absent, rowAt, isExpression}
 use Rattle.rules.specs.Judging.{wrongCount, wrongWord, wrongWords, wrongChild, wrongChildren, children, places, wrongParents, tooDeep, lowest, orElse, judgeRows, judge}
-use Rattle.rules.specs.Sound.{Fits, SoundRow, Fitting, Shallow, Sound}
+use Rattle.rules.specs.Sound.{Fits, SoundRow, Fitting, WithinLimits, Shallow, Sound}
 
 -- ---- the rows of a table of words
 
@@ -153,9 +153,9 @@ orElse-passes first next e = sym (ap (λ (j : Judged). orElse j next) e)
 
 -- ---- what "accepted" means
 
-pub or-false : (a b : Bool) → (a || b) ≡ false → (a ≡ false) × (b ≡ false)
-or-false true b e = absurd (true≢false e)
-or-false false b e = (refl, e)
+pub neither : (a b : Bool) → (a || b) ≡ false → (a ≡ false) × (b ≡ false)
+neither true b e = absurd (true≢false e)
+neither false b e = (refl, e)
 
 -- a word to which neither refusal 2 nor refusal 3 applies is what its role asks
 fits : (rows : List Row) (i : ℕ) (role : Role) (w : ℕ) → wrongWord role w ≡ false → wrongChild rows i role w ≡ false → Fits rows i role w
@@ -163,10 +163,10 @@ unfolding wrongWord wrongChild
 fits rows i Role.Unnamed w a b = eqb-true w 0 (not-false (eqb w 0) a)
 fits rows i Role.Variable w a b = leb-false _ w a
 fits rows i Role.Statement w a b =
-    let c = or-false (leb i w) _ b in
+    let c = neither (leb i w) _ b in
     (leb-false i w (c .0), not-false _ (c .1))
 fits rows i Role.Expression w a b =
-    let c = or-false (leb i w) _ b in
+    let c = neither (leb i w) _ b in
     (leb-false i w (c .0), not-false _ (c .1))
 fits rows i Role.Value w a b = tt
 fits rows i Role.Channel w a b = ltb-false _ w a
@@ -175,11 +175,11 @@ fits rows i Role.Operator w a b = ltb-false _ w a
 sound-row : (rows : List Row) (i : ℕ) (row : Row) → wrongWords row ≡ false → wrongChildren rows i row ≡ false → SoundRow rows i (row .kind) row
 unfolding wrongWords wrongChildren
 sound-row rows i row a b =
-    let a₁ = or-false _ _ a in
-    let a₂ = or-false _ _ (a₁ .0) in
-    let a₃ = or-false _ _ (a₂ .0) in
-    let b₁ = or-false _ _ b in
-    let b₂ = or-false _ _ (b₁ .0) in
+    let a₁ = neither _ _ a in
+    let a₂ = neither _ _ (a₁ .0) in
+    let a₃ = neither _ _ (a₂ .0) in
+    let b₁ = neither _ _ b in
+    let b₂ = neither _ _ (b₁ .0) in
     record {
       known = a₃ .0;
       p = fits rows i (rolesOf (row .kind) .p) (row .p) (a₃ .1) (b₂ .0);
@@ -195,16 +195,15 @@ fitting-rows rows e₂ e₃ i h =
     sound-row rows i (rowAt rows i) (lowest-accepted 2 _ 0 (length rows) e₂ i (omega arith) (omega arith))
     (lowest-accepted 3 _ 0 (length rows) e₃ i (omega arith) (omega arith))
 
+pub keeps-to-limits : (h n l : ℕ) → (ltb mostHeight h || ltb mostNesting n || ltb mostLoopNesting l) ≡ false → WithinLimits h n l
+keeps-to-limits h n l e =
+    let e₁ = neither _ _ e in
+    let e₂ = neither _ _ (e₁ .0) in
+    record { low = ltb-false _ _ (e₂ .0); flat = ltb-false _ _ (e₂ .1); fewLoops = ltb-false _ _ (e₁ .1) }
+
 shallow : (rows : List Row) (i : ℕ) → tooDeep rows i ≡ false → Shallow rows i
 unfolding tooDeep
-shallow rows i a =
-    let a₁ = or-false _ _ a in
-    let a₂ = or-false _ _ (a₁ .0) in
-    record {
-      low = ltb-false _ _ (a₂ .0);
-      flat = ltb-false _ _ (a₂ .1);
-      fewLoops = ltb-false _ _ (a₁ .1);
-    }
+shallow rows i a = keeps-to-limits _ _ _ a
 
 choice : {A : Type 0} (b c : Bool) (x y : A) → b ≡ c → cond b x y ≡ cond c x y
 choice b c x y e = ap (λ (d : Bool). cond d x y) e
@@ -243,8 +242,8 @@ pub right-count :
     → (length words ≡ length (rowsOf words) * rowWords) × (0 < length (rowsOf words)) × (length (rowsOf words) ≤ mostRows)
 unfolding wrongCount
 right-count words e =
-    let e₁ = or-false _ _ e in
-    let e₂ = or-false _ _ (e₁ .0) in
+    let e₁ = neither _ _ e in
+    let e₂ = neither _ _ (e₁ .0) in
     let n : length (rowsOf words) ≡ length words / rowWords = rows-length words in
     let whole : length words % rowWords ≡ 0 = eqb-true _ 0 (not-false _ (e₂ .0)) in
     let some : length words / rowWords ≢ 0 = eqb-false _ 0 (e₂ .1) in

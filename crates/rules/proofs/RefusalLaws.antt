@@ -8,7 +8,7 @@ use mathlib.Core.Path.{_≡_, refl, sym, ap, _∙_}
 use lib.Dec.{eqb, leb, ltb}
 use lib.ListN.{length, take}
 use lib.Seq.{take-all}
-use borrow.Author.Tests.{le-leb, lt-leb, eq-eqb, ne-eqb, eqb-true, eqb-false, ltb-false}
+use borrow.Author.Tests.{le-leb, lt-leb, eq-eqb, ne-eqb, eqb-true, eqb-false}
 use Rattle.rules.specs.declared.Depth.{Depth}
 use Rattle.rules.specs.declared.Kind.{Kind}
 use Rattle.rules.specs.declared.Role.{Role}
@@ -17,9 +17,9 @@ use Rattle.rules.specs.declared.Row.{Row}
 use Rattle.rules.specs.Limits.{width, rowWords, mostRows, highestChannel, highestOperator, mostHeight, mostNesting, mostLoopNesting}
 use Rattle.rules.specs.Rows.{rolesOf, isStatement, isExpression, isUnknown, rowAt}
 use Rattle.rules.specs.Judging.{wrongCount, wrongWord, wrongWords, wrongChild, wrongChildren, childOf, children, places, wrongParents, tooDeep}
-use Rattle.rules.specs.OnePass.{childrenOf, depthAt, depthBy, overLimits, WithinLimits}
+use Rattle.rules.specs.OnePass.{childrenOf, depthAt, depthBy, overLimits, Within}
 use Rattle.rules.proofs.RowLaws.{Arm, kindAt, roleAt}
-use Rattle.rules.proofs.JudgeLaws.{or-false}
+use Rattle.rules.proofs.JudgeLaws.{keeps-to-limits}
 
 -- ---- refusal 1
 
@@ -195,12 +195,9 @@ pub over-law :
 unfolding overLimits
 over-law d h n l hh hn hl = cc
 
-pub within-limits : (d : Depth) → overLimits d ≡ false → WithinLimits d
+pub within-limits : (d : Depth) → overLimits d ≡ false → Within d
 unfolding overLimits
-within-limits d e =
-    let e₁ = or-false _ _ e in
-    let e₂ = or-false _ _ (e₁ .0) in
-    record { low = ltb-false _ _ (e₂ .0); flat = ltb-false _ _ (e₂ .1); fewLoops = ltb-false _ _ (e₁ .1) }
+within-limits d e = keeps-to-limits (d .height) (d .nesting) (d .loops) e
 
 pub too-deep-law : (rows : List Row) (i : ℕ) → tooDeep rows i ≡ overLimits (depthAt rows i)
 unfolding tooDeep overLimits depthAt

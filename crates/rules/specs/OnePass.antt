@@ -1,6 +1,6 @@
 -- What a judge knows that goes through the rows once: the children of one row, and a row's depth from those of its children.
 -- Nothing of document 01 is decided here: private contracts speak in these words, and laws join them with the rules.
-use Prim.Native.Nat.{ℕ, _+_, _≤_, max}
+use Prim.Native.Nat.{ℕ, _+_, max}
 use mathlib.Core.Bool.{Bool, _||_}
 use mathlib.Core.List.{List, _++_}
 use lib.Dec.{ltb}
@@ -11,6 +11,7 @@ use Rattle.rules.specs.Limits.{mostHeight, mostNesting, mostLoopNesting}
 use Rattle.rules.specs.Rows.{rolesOf}
 use Rattle.rules.specs.Trees.{exprAt, stmtAt, height, nesting, loopNesting}
 use Rattle.rules.specs.Judging.{childOf}
+use Rattle.rules.specs.Sound.{WithinLimits}
 
 -- the rows that a row names as its children
 unfoldable pub childrenOf : Row → List ℕ
@@ -42,7 +43,5 @@ unfoldable pub overLimits : Depth → Bool
 overLimits d = ltb mostHeight (d .height) || ltb mostNesting (d .nesting) || ltb mostLoopNesting (d .loops)
 
 -- a depth over none of them
-pub record WithinLimits (d : Depth) : Type 0 where
-  pub low : d .height ≤ mostHeight
-  pub flat : d .nesting ≤ mostNesting
-  pub fewLoops : d .loops ≤ mostLoopNesting
+abbrev pub Within : Depth → Type 0
+Within d = WithinLimits (d .height) (d .nesting) (d .loops)

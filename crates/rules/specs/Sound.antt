@@ -34,11 +34,15 @@ pub record SoundRow (rows : List Row) (i : ℕ) (kind : Kind) (row : Row) : Type
 abbrev pub Fitting : List Row → Type 0
 Fitting rows = (i : ℕ) → i < length rows → SoundRow rows i (rowAt rows i .kind) (rowAt rows i)
 
+-- a height, nesting and loop nesting that keep to the limits
+pub record WithinLimits (height nesting loops : ℕ) : Type 0 where
+  pub low : height ≤ mostHeight
+  pub flat : nesting ≤ mostNesting
+  pub fewLoops : loops ≤ mostLoopNesting
+
 -- no tree of the table is too deep
-pub record Shallow (rows : List Row) (i : ℕ) : Type 0 where
-  pub low : height (exprAt rows i) ≤ mostHeight
-  pub flat : nesting (stmtAt rows i) ≤ mostNesting
-  pub fewLoops : loopNesting (stmtAt rows i) ≤ mostLoopNesting
+abbrev pub Shallow : List Row → ℕ → Type 0
+Shallow rows i = WithinLimits (height (exprAt rows i)) (nesting (stmtAt rows i)) (loopNesting (stmtAt rows i))
 
 -- the rows of an accepted table
 pub record Sound (rows : List Row) : Type 0 where

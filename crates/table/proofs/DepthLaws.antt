@@ -14,7 +14,7 @@ use Rattle.rules.specs.declared.Row.{Row}
 use Rattle.rules.specs.Limits.{mostRows}
 use Rattle.rules.specs.Rows.{rowAt}
 use Rattle.rules.specs.Sound.{Fitting}
-use Rattle.rules.specs.OnePass.{depthAt, depthBy, WithinLimits}
+use Rattle.rules.specs.OnePass.{depthAt, depthBy, Within}
 use Rattle.rules.proofs.TreeLaws.{depth-law}
 
 -- what stands where nothing was kept yet
@@ -24,9 +24,9 @@ flat = record { height = 0; nesting = 0; loops = 0 }
 pub record Kept (rows : List Row) (depths : List Depth) (i : ℕ) : Type 0 where
   pub long : length depths ≡ mostRows
   pub below : (j : ℕ) → j < i → getD depths j flat ≡ depthAt rows j
-  pub within : (j : ℕ) → WithinLimits (getD depths j flat)
+  pub within : (j : ℕ) → Within (getD depths j flat)
 
-flat-within : WithinLimits flat
+flat-within : Within flat
 flat-within = record { low = omega arith; flat = omega arith; fewLoops = omega arith }
 
 pub kept-none : (rows : List Row) → Kept rows (replicate mostRows flat) 0
@@ -42,11 +42,11 @@ kept-none rows =
     any (suc n) zero = refl
     any (suc n) (suc j) = any n j
 
-    at : (j : ℕ) → WithinLimits (getD (replicate mostRows flat) j flat)
-    at j = subst WithinLimits (sym (any mostRows j)) flat-within
+    at : (j : ℕ) → Within (getD (replicate mostRows flat) j flat)
+    at j = subst Within (sym (any mostRows j)) flat-within
 
 pub kept-more :
-    (rows : List Row) (depths : List Depth) (i : ℕ) (d : Depth) → Kept rows depths i → i < mostRows → d ≡ depthAt rows i → WithinLimits d
+    (rows : List Row) (depths : List Depth) (i : ℕ) (d : Depth) → Kept rows depths i → i < mostRows → d ≡ depthAt rows i → Within d
     → Kept rows (set depths i d) (i + 1)
 kept-more rows depths i d kept small same within =
     record {
@@ -66,9 +66,9 @@ kept-more rows depths i d kept small same within =
         let other : j ≡ i → ⊥ = eqb-false j i e in
         getD-set-other depths i j d flat other ∙ kept .below j (omega arith)
 
-    inside : (j : ℕ) (t : Bool) → eqb j i ≡ t → WithinLimits (getD (set depths i d) j flat)
-    inside j true e = subst WithinLimits (sym (ap (λ (n : ℕ). getD (set depths i d) n flat) (eqb-true j i e) ∙ now)) within
-    inside j false e = subst WithinLimits (sym (getD-set-other depths i j d flat (eqb-false j i e))) (kept .within j)
+    inside : (j : ℕ) (t : Bool) → eqb j i ≡ t → Within (getD (set depths i d) j flat)
+    inside j true e = subst Within (sym (ap (λ (n : ℕ). getD (set depths i d) n flat) (eqb-true j i e) ∙ now)) within
+    inside j false e = subst Within (sym (getD-set-other depths i j d flat (eqb-false j i e))) (kept .within j)
 
 -- the next row's depth, from what is kept at its words
 pub kept-depth :

@@ -10,7 +10,7 @@ ghost use lib.ListN.{length};
 ghost use Rattle.rules.specs.declared.Judged.{Judged};
 ghost use Rattle.rules.specs.Limits.{mostRows};
 ghost use Rattle.rules.specs.Rows.{rowsOf};
-ghost use Rattle.rules.specs.OnePass.{WithinLimits, depthBy, overLimits};
+ghost use Rattle.rules.specs.OnePass.{Within, depthBy, overLimits};
 ghost use Rattle.table.specs.Refused.{refusedWords, refusedChildren, refusedDepths};
 
 // "expression height over 16, nesting over 8 or loop nesting over 3"
@@ -32,7 +32,7 @@ fn larger(a: u8, b: u8) -> u8
 
 // A row's depth from those of the rows that its words name.
 fn depth_by(kind: Kind, p: Depth, q: Depth, r: Depth) -> Depth
-    requires { ⌜ WithinLimits p × WithinLimits q × WithinLimits r ⌝ }
+    requires { ⌜ Within p × Within q × Within r ⌝ }
     ensures { λ d. ⌜ d ≡ depthBy kind p q r ⌝ }
 {
     match kind {
