@@ -1,6 +1,8 @@
 -- `step::take_apart` meets its contract.
+use Prim.Native.Nat.{_<_}
 use mathlib.Core.Path.{sym, subst}
 use native.Mathlib.Omega.{arith}
+use Rattle.rules.specs.Limits.{mostRows}
 use Rattle.rules.specs.Rows.{rowsOf}
 use Rattle.step.specs.Turns.{Apart, Found}
 use Rattle.step.proofs.StepLaws.{apart-none, OneMore, apart-more}
@@ -35,11 +37,20 @@ more c =
     let start = loop .before .before in
     apart-more _ (start .pre .0) _ _ _ _ _ _ (start .pre .3) (loop .loop .inv .0) (loop .loop .inv .1) (c .before .is-sequence .ensures .0 (c .if1 .taken))
 
+-- both of its statements' rows are in the table
+small :
+    (c : tie.Then1 Inv-loop μ-loop)
+    → (c .before .before .loop .here .p < mostRows) × (c .before .before .loop .here .q < mostRows)
+small c =
+    let loop = c .before .before in
+    let few = loop .before .before .pre .0 .few in
+    (omega (arith, more c .first, loop .loop .inv .1 .within, few), omega (arith, more c .second, few))
+
 add-entries : tie.Need-add-entries Inv-loop μ-loop
-add-entries c = omega (arith, more (c .before) .second, c .before .before .before .before .before .pre .0 .few)
+add-entries c = omega (arith, small (c .before) .0, small (c .before) .1)
 
 cast-entries : tie.Need-cast-entries Inv-loop μ-loop
-cast-entries c = record { fits = omega (arith, more (c .before) .second, c .before .before .before .before .before .pre .0 .few) }
+cast-entries c = record { fits = omega (arith, small (c .before) .0, small (c .before) .1) }
 
 sub-entries : tie.Need-sub-entries Inv-loop μ-loop
 sub-entries c = omega (arith, c .before .before .before .loop .inv .1 .some)
@@ -51,14 +62,10 @@ element-write-entries : tie.Need-element-write-entries Inv-loop μ-loop
 element-write-entries c = omega (arith, more (c .before) .room, c .before .before .before .loop .inv .0 .entries-long)
 
 add-entries-2 : tie.Need-add-entries-2 Inv-loop μ-loop
-add-entries-2 c =
-    let loop = c .before .before .before .before in
-    omega (arith, more (c .before .before) .first, loop .loop .inv .1 .within, loop .before .before .pre .0 .few)
+add-entries-2 c = omega (arith, small (c .before .before) .0, small (c .before .before) .1)
 
 cast-entries-2 : tie.Need-cast-entries-2 Inv-loop μ-loop
-cast-entries-2 c =
-    let loop = c .before .before .before .before in
-    record { fits = omega (arith, more (c .before .before) .first, loop .loop .inv .1 .within, loop .before .before .pre .0 .few) }
+cast-entries-2 c = record { fits = omega (arith, small (c .before .before) .0, small (c .before .before) .1) }
 
 mul-entries-2 : tie.Need-mul-entries-2 Inv-loop μ-loop
 mul-entries-2 c = omega (arith, more (c .before .before) .room)
