@@ -7,6 +7,7 @@ use leaves::marks::mark_as;
 use leaves::memory::store_lent;
 use rows::read_row;
 use rules::Kind;
+use rules::MOST_ROWS;
 use rules::Marks;
 use rules::Row;
 use rules::VARIABLES;
@@ -28,12 +29,12 @@ ghost use Rattle.rules.specs.Sound.{Sound};
 ghost use Rattle.step.specs.Denoted.{itemsOf, setsOf, Entry, Entries, Holds};
 ghost use Rattle.step.specs.Turns.{Ready, Opened, Apart, Found, PutOut, Turned};
 
-// An entry of the pending array is 0 for a close, and a statement's row and 1 for the statement. At most one is pending for
-// each of 512 rows and for each of 8 levels of nesting.
-pub const ENTRIES: usize = 520;
-
 // "nesting over 8": the pile holds at most as many sets.
 pub const SETS: usize = 8;
+
+// An entry of the pending array is 0 for a close, and a statement's row and 1 for the statement. At most one is pending for
+// each row and for each level of nesting.
+pub const ENTRIES: usize = MOST_ROWS + SETS;
 
 // How much of each array the state takes, and its marks.
 pub struct Held {
