@@ -16,7 +16,8 @@ fn answer(text: &[u8]) {
     let Wrote::Bytes(count) = wrote else {
         return;
     };
-    if !streams::write_all(&out[..count]) {
+    let put = streams::write_all(&out[..count]);
+    if let Moved::Failed = put {
         os::fail(b"watch: cannot write the report");
     }
 }

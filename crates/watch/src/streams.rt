@@ -5,7 +5,7 @@ use libc::STDIN_FILENO;
 use libc::STDOUT_FILENO;
 ghost use Prim.Native.Nat.{_≤_};
 ghost use lib.ListN.{length};
-ghost use Rattle.watch.specs.Streams.{bytesOf};
+ghost use Rattle.watch.specs.Streams.{bytesOf, Whole};
 
 // How many bytes were moved; or a call failed, and errno says why.
 pub enum Moved {
@@ -68,18 +68,20 @@ pub fn read_all(buf: &mut [u8]) -> Moved
     Moved::Bytes(done)
 }
 
-// Writes the buffer to standard output; answers whether all of it was taken.
-pub fn write_all(buf: &[u8]) -> bool {
-    let mut done = 0;
-    while done < buf.len() {
-        let put = write_some(&buf[done..]);
-        let Moved::Bytes(count) = put else {
-            return false;
+// Writes the buffer to standard output: all of its bytes, or a call failed or took none.
+pub fn write_all(buf: &[u8]) -> Moved
+    ensures { λ r. ⌜ Whole (length (now (buf .entry))) r ⌝ }
+{
+    let mut taken = 0;
+    while taken < buf.len() {
+        let put = write_some(&buf[taken..]);
+        let Moved::Bytes(part) = put else {
+            return Moved::Failed;
         };
-        if count == 0 {
-            return false;
+        if part == 0 {
+            return Moved::Failed;
         }
-        done += count;
+        taken += part;
     }
-    true
+    Moved::Bytes(taken)
 }

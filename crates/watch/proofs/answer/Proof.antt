@@ -30,11 +30,17 @@ slice-aggregate-write-all c = sym (length-take-le _ _ (array-share-prefix-out (c
 write-all-requires : tie.Need-write-all-requires
 write-all-requires c κs = search needs
 
+enum-told : tie.Need-enum-told
+enum-told c = search needs
+
 slice-aggregate-fail : tie.Need-slice-aggregate-fail
 slice-aggregate-fail c = search needs
 
 fail-requires : tie.Need-fail-requires
 fail-requires c κs = search needs
+
+enum-told-2 : tie.Need-enum-told-2
+enum-told-2 c = search needs
 
 returns-2 : tie.Need-returns-2
 returns-2 c = search needs
@@ -53,7 +59,9 @@ answer-spec =
     array-share-prefix-out
     slice-aggregate-write-all
     write-all-requires
+    enum-told
     slice-aggregate-fail
     fail-requires
+    enum-told-2
     returns-2
     returns-3)

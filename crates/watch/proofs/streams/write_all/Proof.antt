@@ -1,4 +1,4 @@
--- `watch::streams::write_all` is safe and ends. The measure is what is left of the buffer. Assumes nothing.
+-- `watch::streams::write_all` meets its contract. The measure is what is left of the buffer. Assumes nothing.
 use native.Mathlib.Omega.{arith}
 use Rattle.watch.proofs.StreamLaws.{moved-within}
 use Prim.Native.Nat.{_-_, _≤_}
@@ -8,10 +8,10 @@ use Rattle.watch.proofs.streams.write_all.Statement.{statement}
 use Rattle.watch.proofs.streams.write_all.Tie as tie
 
 abbrev Inv-loop : tie.InvT-loop
-Inv-loop buf done₀ done = done ≤ length buf
+Inv-loop buf taken₀ taken = taken ≤ length buf
 
 abbrev μ-loop : tie.MeasureT-loop
-μ-loop buf done₀ done = length buf - done
+μ-loop buf taken₀ taken = length buf - taken
 
 loop-holds : tie.Need-loop-holds Inv-loop μ-loop
 loop-holds c = search needs
@@ -40,12 +40,12 @@ returns c = search needs
 returns-2 : tie.Need-returns-2 Inv-loop μ-loop
 returns-2 c = search needs
 
-add-done : tie.Need-add-done Inv-loop μ-loop
-add-done c =
+add-taken : tie.Need-add-taken Inv-loop μ-loop
+add-taken c =
     let at-put = c .before .before in
     let at-write-some = at-put .before .before in
     let at-loop = at-write-some .before .before .before in
-    record { fits = omega (arith, moved-within (at-loop .before .before .args .buf .now) (at-loop .loop .done) (at-put .put .given .1) (at-write-some .write-some .ensures) (at-loop .loop .inv)) }
+    record { fits = omega (arith, moved-within (at-loop .before .before .args .buf .now) (at-loop .loop .taken) (at-put .put .given .1) (at-write-some .write-some .ensures) (at-loop .loop .inv)) }
 
 loop-less : tie.Need-loop-less Inv-loop μ-loop
 loop-less c = search needs
@@ -55,7 +55,7 @@ loop-again c =
     let at-put = c .before .before in
     let at-write-some = at-put .before .before in
     let at-loop = at-write-some .before .before .before in
-    moved-within (at-loop .before .before .args .buf .now) (at-loop .loop .done) (at-put .put .given .1) (at-write-some .write-some .ensures) (at-loop .loop .inv)
+    moved-within (at-loop .before .before .args .buf .now) (at-loop .loop .taken) (at-put .put .given .1) (at-write-some .write-some .ensures) (at-loop .loop .inv)
 
 returns-3 : tie.Need-returns-3 Inv-loop μ-loop
 returns-3 c = search needs
@@ -75,7 +75,7 @@ write-all-spec =
     enum-told
     returns
     returns-2
-    add-done
+    add-taken
     loop-less
     loop-again
     returns-3)
