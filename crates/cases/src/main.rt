@@ -34,7 +34,7 @@ const MOST_TRACE_WORDS: usize = 16400;
 // A trace of more words is shown only as far as it has records.
 const MOST_SHOWN_WORDS: usize = 64;
 
-const MOST_NUMBER: u64 = 4294967295;
+const MOST_NUMBER: u64 = rules::WORD_VALUES - 1;
 
 // A number of the input, and where the next one starts.
 struct Number {

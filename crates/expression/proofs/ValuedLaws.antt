@@ -1,11 +1,12 @@
 -- Value and level in one answer, for each form of expression.
-use Prim.Native.Nat.{ℕ, _+_, _*_, _<_}
+use Prim.Native.Nat.{ℕ, _+_, _*_, _^_, _<_}
 use native.Mathlib.Nat.{add-zero, mod-eq-of-lt, div-eq-of-lt, mul-add-mod-self-right, mul-add-div-right}
-use native.Mathlib.Omega.{arith}
+use lib.Pow.{pow-pos}
 use mathlib.Core.List.{List}
 use mathlib.Core.Path.{_≡_, sym, ap, ap₂, _∙_}
 use lib.Bits.{bitAnd}
 use lib.ListN.{getD}
+use Rattle.rules.specs.Limits.{wordBits}
 use Rattle.rules.specs.declared.Operator.{Operator}
 use Rattle.rules.specs.Marks.{only, union}
 use Rattle.rules.specs.Trees.{Expr, constant, variable, binary}
@@ -17,13 +18,13 @@ use Rattle.expression.specs.Valued.{valuedOf, valuedIn}
 abbrev pair : ℕ → ℕ → Valued
 pair v l = record { value = v; level = l }
 
--- a value below 2^32 and a level stand in one word
-pub valued-in : (v l : ℕ) → v < 4294967296 → valuedIn (l * 4294967296 + v) ≡ record { value = v; level = l }
+-- a value of a word's size and a level stand in one word
+pub valued-in : (v l : ℕ) → v < 2 ^ wordBits → valuedIn (l * 2 ^ wordBits + v) ≡ record { value = v; level = l }
 valued-in v l small =
     ap₂
     pair
-    (mul-add-mod-self-right l 4294967296 v ∙ mod-eq-of-lt small)
-    (mul-add-div-right {m = 4294967296} (omega arith) l v ∙ ap (λ (q : ℕ). l + q) (div-eq-of-lt small) ∙ add-zero l)
+    (mul-add-mod-self-right l (2 ^ wordBits) v ∙ mod-eq-of-lt small)
+    (mul-add-div-right {m = 2 ^ wordBits} (pow-pos wordBits) l v ∙ ap (λ (q : ℕ). l + q) (div-eq-of-lt small) ∙ add-zero l)
 
 module _ (memory : List ℕ) (marks : ℕ) where
   pub valued-constant : (c : ℕ) → record { value = c; level = 0 } ≡ valuedOf memory marks (constant c)

@@ -1,7 +1,8 @@
 -- An expression's value and level in one answer, and what the public call answers.
-use Prim.Native.Nat.{ℕ, _%_, _/_}
+use Prim.Native.Nat.{ℕ, _%_, _/_, _^_}
 use mathlib.Core.List.{List}
 use Rattle.rules.specs.declared.Judged.{Judged}
+use Rattle.rules.specs.Limits.{wordBits}
 use Rattle.rules.specs.Rows.{rowsOf}
 use Rattle.rules.specs.Trees.{Expr, exprAt}
 use Rattle.rules.specs.Values.{value, level}
@@ -12,9 +13,9 @@ use Rattle.expression.specs.declared.values.Evaluation.{Evaluation}
 abbrev pub valuedOf : List ℕ → ℕ → Expr → Valued
 valuedOf memory marks e = record { value = value memory e; level = level marks e }
 
--- the value and level that stand in one word: the level above the value's 32 bits
+-- the value and level that stand in one word: the level above the value's bits
 abbrev pub valuedIn : ℕ → Valued
-valuedIn word = record { value = word % 4294967296; level = word / 4294967296 }
+valuedIn word = record { value = word % 2 ^ wordBits; level = word / 2 ^ wordBits }
 
 abbrev pub foundOr : Judged → Valued → Evaluation
 foundOr Judged.Accepted found = Evaluation.Found found

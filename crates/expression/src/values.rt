@@ -10,6 +10,7 @@ use rules::Kind;
 use rules::Marks;
 use rules::Memory;
 use rules::VARIABLES;
+use rules::WORD_VALUES;
 use table::judge;
 ghost use mathlib.Core.Path.{_≡_};
 ghost use Prim.Native.Nat.{_%_, _<_};
@@ -32,14 +33,11 @@ pub enum Evaluation {
     Refused { number: u32, row: u32 },
 }
 
-// A level stands above a value in one word: 2^32.
-const LEVELS: u64 = 4294967296;
-
-// Value and level in one word. The recursion answers so, since one word comes back in a register and a struct through memory.
+// Value and level in one word, the level above. The recursion answers so, since one word comes back in a register and a struct through memory.
 fn pack(value: u32, level: Marks) -> u64
     ensures { λ r. ⌜ valuedIn r ≡ record { value = value; level = level } ⌝ }
 {
-    level as u64 * LEVELS + value as u64
+    level as u64 * WORD_VALUES + value as u64
 }
 
 // The value and level that stand in one word.
@@ -47,8 +45,8 @@ fn unpack(word: u64) -> Valued
     ensures { λ r. ⌜ r ≡ valuedIn word ⌝ }
 {
     Valued {
-        value: (word % LEVELS) as u32,
-        level: (word / LEVELS) as u32,
+        value: (word % WORD_VALUES) as u32,
+        level: (word / WORD_VALUES) as u32,
     }
 }
 

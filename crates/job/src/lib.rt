@@ -4,6 +4,7 @@ use rules::Marks;
 use rules::Memory;
 use rules::ROW_WORDS;
 use rules::VARIABLES;
+use rules::WORD_VALUES;
 ghost use mathlib.Core.Path.{_≡_};
 ghost use mathlib.Core.Bool.{true};
 ghost use mathlib.Core.List.{[], _∷_};
@@ -21,7 +22,7 @@ ghost use Rattle.job.specs.Read.{keySaid, fieldSaid, lineSaid, rowSaid, 
 // Document 01's numbers of a job, as `specs/Limits` has them.
 pub const MOST_BYTES: usize = 32768;
 
-const MOST_WORD: u64 = 4294967295;
+const MOST_WORD: u64 = WORD_VALUES - 1;
 
 pub const MOST_ROOM: u64 = 8192;
 

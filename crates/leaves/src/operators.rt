@@ -1,5 +1,6 @@
 // The operators: "0 sum, 1 difference, 2 product (all modulo 2^32), 3 whole quotient, with 0 where the divisor is 0, 4 equal,
 // 5 less (both give 1 or 0)".
+use rules::WORD_VALUES;
 use std::num::wrapping_add_u32;
 use std::num::wrapping_sub_u32;
 ghost use mathlib.Core.Path.{_≡_};
@@ -7,14 +8,11 @@ ghost use Rattle.rules.specs.declared.Operator.{Operator};
 ghost use Rattle.rules.specs.Trees.{operatorOf};
 ghost use Rattle.rules.specs.Values.{operate};
 
-// "all modulo 2^32"
-const MODULUS: u64 = 4294967296;
-
 // The product modulo 2^32: the whole product fits 64 bits.
 fn product(a: u32, b: u32) -> u32
     ensures { λ r. ⌜ r ≡ operate Operator.Product a b ⌝ }
 {
-    (a as u64 * b as u64 % MODULUS) as u32
+    (a as u64 * b as u64 % WORD_VALUES) as u32
 }
 
 // The whole quotient, with 0 where the divisor is 0.

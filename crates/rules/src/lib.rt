@@ -1,5 +1,8 @@
 // The types that the rules and the code share: kinds, roles of a word, rows, memory, and the answers.
 
+// "Values and table words are 32-bit unsigned": there are 2^32 of them.
+pub const WORD_VALUES: u64 = 4294967296;
+
 // "Memory has 32 variables, v0 to v31."
 pub const VARIABLES: usize = 32;
 
