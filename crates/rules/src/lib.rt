@@ -12,6 +12,9 @@ pub const ROW_WORDS: usize = 4;
 // "over 512 rows"
 pub const MOST_ROWS: usize = 512;
 
+// "nesting over 8"
+pub const MOST_NESTING: u8 = 8;
+
 // "A mark set is 32 bits; bit i set means that vi is provisional."
 pub type Marks = u32;
 

@@ -7,6 +7,7 @@ use leaves::marks::mark_as;
 use leaves::memory::store_lent;
 use rows::read_row;
 use rules::Kind;
+use rules::MOST_NESTING;
 use rules::MOST_ROWS;
 use rules::Marks;
 use rules::Row;
@@ -29,8 +30,8 @@ ghost use Rattle.rules.specs.Sound.{Sound};
 ghost use Rattle.step.specs.Denoted.{itemsOf, setsOf, Entry, Entries, Holds};
 ghost use Rattle.step.specs.Turns.{Ready, Opened, Apart, Found, PutOut, Turned};
 
-// "nesting over 8": the pile holds at most as many sets.
-pub const SETS: usize = 8;
+// The pile holds at most as many sets as there are levels of nesting.
+pub const SETS: usize = MOST_NESTING as usize;
 
 // An entry of the pending array is 0 for a close, and a statement's row and 1 for the statement. At most one is pending for
 // each row and for each level of nesting.

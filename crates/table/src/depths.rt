@@ -3,6 +3,7 @@ use rows::read_row;
 use rules::Depth;
 use rules::Judged;
 use rules::Kind;
+use rules::MOST_NESTING;
 use rules::MOST_ROWS;
 ghost use mathlib.Core.Path.{_≡_};
 ghost use Prim.Native.Nat.{_%_, _≤_, max};
@@ -13,10 +14,8 @@ ghost use Rattle.rules.specs.Rows.{rowsOf};
 ghost use Rattle.rules.specs.OnePass.{Within, depthBy, overLimits};
 ghost use Rattle.table.specs.Refused.{refusedWords, refusedChildren, refusedDepths};
 
-// "expression height over 16, nesting over 8 or loop nesting over 3"
+// "expression height over 16 .. or loop nesting over 3"
 const MOST_HEIGHT: u8 = 16;
-
-const MOST_NESTING: u8 = 8;
 
 const MOST_LOOP_NESTING: u8 = 3;
 
