@@ -16,7 +16,7 @@ use Rattle.job.specs.Limits.{tableWords, tooLong, firstInput}
 use Rattle.lines.specs.Lines.{rowsKey, Line, line, faulty, lineOf, Lines, lines, broken, linesOf}
 use Rattle.job.specs.Jobs.{Job, Told, told, untold, one, many, finish, inLine, rowLine, readTable, readInputs, readBudget, sized, readJob}
 use Rattle.job.specs.Read.{filled, reading}
-use Rattle.lines.proofs.NumberLaws.{drop-at}
+use Rattle.lines.proofs.NumberLaws.{drop-next}
 
 -- ---- one line of a number, and what follows
 
@@ -58,7 +58,7 @@ module _ (budget room marks at : ℕ) (inputs text : List ℕ) where
     unfolding many finish
     table-further words all end e h =
         ap (λ (k : ℕ). untold lacksForm (k + rows)) next
-        ∙ sym (ap (finish (at + 1 + rows) (jobOf words)) (drop-at all end h))
+        ∙ sym (ap (finish (at + 1 + rows) (jobOf words)) (drop-next all end h))
         ∙ table-lines (lines words (drop end all)) e
 
     pub table-told : (words all : List ℕ) (end : ℕ) → lines words (drop end all) ≡ linesOf rowLine rows first [] rest → length all ≤ end

@@ -10,7 +10,7 @@ use borrow.Author.Tests.{eq-eqb, ne-eqb, leb-true, le-leb, lt-leb}
 use Rattle.lines.specs.Lines.{lineEnd, After, absent, after, afterKey, numberAfter, field, Fields, noFields, fields, put, onward, fieldsOf, line, faulty, inRange, closed, ended, lineOf}
 use Rattle.lines.specs.Limits.{lacksForm, outOfRange}
 use Rattle.lines.specs.Numbers.{noNumber, number, numberAt}
-use Rattle.lines.proofs.NumberLaws.{drop-at, both-true}
+use Rattle.lines.proofs.NumberLaws.{drop-next, both-true}
 
 -- ---- the key from its byte j on, at the text from its place i on
 
@@ -18,7 +18,7 @@ key-both : (key text : List ℕ) (j i : ℕ) → j < length key → i < length t
     → afterKey (drop j key) (drop i text)
     ≡ cond (eqb (getD key j 0) (getD text i 0)) (afterKey (drop (j + 1) key) (drop (i + 1) text)) absent
 unfolding afterKey
-key-both key text j i hj hi = ap₂ afterKey (drop-at key j hj) (drop-at text i hi)
+key-both key text j i hj hi = ap₂ afterKey (drop-next key j hj) (drop-next text i hi)
 
 pub key-again : (key text : List ℕ) (j i : ℕ) → j < length key → i < length text → getD key j 0 ≡ getD text i 0
     → afterKey (drop (j + 1) key) (drop (i + 1) text) ≡ afterKey (drop j key) (drop i text)
@@ -34,7 +34,7 @@ key-differs key text j i hj hi ne =
 
 pub key-short : (key text : List ℕ) (j i : ℕ) → j < length key → length text ≤ i → absent ≡ afterKey (drop j key) (drop i text)
 unfolding afterKey
-key-short key text j i hj hi = sym (ap₂ afterKey (drop-at key j hj) (drop-of-length-le text hi))
+key-short key text j i hj hi = sym (ap₂ afterKey (drop-next key j hj) (drop-of-length-le text hi))
 
 pub key-end : (key text : List ℕ) (j i : ℕ) → length key ≤ j → after (drop i text) ≡ afterKey (drop j key) (drop i text)
 unfolding afterKey

@@ -12,8 +12,8 @@ use borrow.Author.Tests.{leb-true, le-leb, lt-leb, eq-eqb, ne-eqb}
 use Rattle.lines.specs.Numbers.{zeroByte, nineByte, isDigit, beyond, noNumber, number, onByte, digitsOn, begun, numberAt}
 
 -- the byte at a place, and the text from there on
-pub drop-at : (text : List ℕ) (i : ℕ) → i < length text → drop i text ≡ getD text i 0 ∷ drop (i + 1) text
-drop-at text i h = drop-cons text i 0 h ∙ ap (λ (k : ℕ). getD text i 0 ∷ drop k text) (sym (add-one i))
+pub drop-next : (text : List ℕ) (i : ℕ) → i < length text → drop i text ≡ getD text i 0 ∷ drop (i + 1) text
+drop-next text i h = drop-cons text i 0 h ∙ ap (λ (k : ℕ). getD text i 0 ∷ drop k text) (sym (add-one i))
 
 pub both-true : (a b : Bool) → (a && b) ≡ true → (a ≡ true) × (b ≡ true)
 both-true true true e = (refl, refl)
@@ -61,16 +61,16 @@ digits-again text i v w h digit e =
     ap (digitsOn (drop (i + 1) text)) e
     ∙ digits-capped (drop (i + 1) text) (v * 10 + (getD text i 0 - zeroByte))
     ∙ sym (ap (λ (b : Bool). onByte b (digitsOn (drop (i + 1) text)) v (getD text i 0) (drop (i + 1) text)) digit)
-    ∙ sym (ap (λ (l : List ℕ). digitsOn l v) (drop-at text i h))
+    ∙ sym (ap (λ (l : List ℕ). digitsOn l v) (drop-next text i h))
 
 pub digits-stop : (text : List ℕ) (i v : ℕ) → i < length text → isDigit (getD text i 0) ≡ false → v ≤ beyond
     → number v (drop i text) ≡ digitsOn (drop i text) v
 unfolding digitsOn onByte
 digits-stop text i v h digit within =
     let c : v ≡ min v beyond = omega arith in
-    ap₂ number c (drop-at text i h)
+    ap₂ number c (drop-next text i h)
     ∙ sym (ap (λ (b : Bool). onByte b (digitsOn (drop (i + 1) text)) v (getD text i 0) (drop (i + 1) text)) digit)
-    ∙ sym (ap (λ (l : List ℕ). digitsOn l v) (drop-at text i h))
+    ∙ sym (ap (λ (l : List ℕ). digitsOn l v) (drop-next text i h))
 
 pub digits-end : (text : List ℕ) (i v : ℕ) → length text ≤ i → v ≤ beyond → number v (drop i text) ≡ digitsOn (drop i text) v
 unfolding digitsOn
@@ -87,7 +87,7 @@ number-none text at h = sym (ap numberAt (drop-of-length-le text h))
 number-begun : (text : List ℕ) (at : ℕ) → at < length text
     → begun (eqb (getD text at 0) zeroByte) (isDigit (getD text at 0)) (getD text at 0) (drop (at + 1) text) ≡ numberAt (drop at text)
 unfolding numberAt
-number-begun text at h = sym (ap numberAt (drop-at text at h))
+number-begun text at h = sym (ap numberAt (drop-next text at h))
 
 pub number-zero : (text : List ℕ) (at : ℕ) → at < length text → getD text at 0 ≡ zeroByte
     → number 0 (drop (at + 1) text) ≡ numberAt (drop at text)

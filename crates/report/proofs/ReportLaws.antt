@@ -21,7 +21,7 @@ use Rattle.lines.specs.Lines.{lineEnd, comma, levelsKey, fieldText, fieldsText,
 use Rattle.report.specs.Reports.{refusedKey, atKey, verdictKey, placeKey, stepsKey, markedKey, memKey, recordsKey, outKey, refusalText, headText, memoryText, recordText, recordsText, runText, saidText, report}
 use Rattle.lines.specs.Limits.{mostDigits}
 use Rattle.report.specs.Written.{Placed, mostField, mostLine, mostHead, mostMemory, mostRecord, mostRefusal, mostRun, Written, fitted, placedIn, recordsOf, wholeOf, counted, refusalWritten, runWritten, endedWritten, reportWritten}
-use Rattle.lines.proofs.NumberLaws.{drop-at}
+use Rattle.lines.proofs.NumberLaws.{drop-next}
 use Rattle.report.proofs.WriteLaws.{placed-then, Leads, leads-start, leads-step, leads-end}
 
 -- ---- the texts, as they are put together
@@ -41,7 +41,7 @@ pub memory-text : (values : List ℕ) → length values ≡ width
 unfolding memoryText lineText fieldsText
 memory-text values h =
     sym (append-assoc (fieldText memKey (getD values 0 0)) (fieldsText (replicate (width - 1) comma) (drop 1 values)) lineEnd)
-    ∙ sym (ap₂ (λ (n : ℕ) (vs : List ℕ). fieldsText (memKey ∷ replicate (n - 1) comma) vs ++ lineEnd) h (drop-at values 0 (omega arith)))
+    ∙ sym (ap₂ (λ (n : ℕ) (vs : List ℕ). fieldsText (memKey ∷ replicate (n - 1) comma) vs ++ lineEnd) h (drop-next values 0 (omega arith)))
 
 -- ---- pieces that are put
 
@@ -108,7 +108,7 @@ values-more : (values : List ℕ) (i : ℕ) → length values ≡ width → i < 
 unfolding fieldsText
 values-more values i h more =
     let n : width - i ≡ suc (width - (i + 1)) = omega arith in
-    ap₂ (λ (k : ℕ) (vs : List ℕ). fieldsText (replicate k comma) vs) n (drop-at values i (omega arith))
+    ap₂ (λ (k : ℕ) (vs : List ℕ). fieldsText (replicate k comma) vs) n (drop-next values i (omega arith))
 
 pub values-again : {out out₀ : List ℕ} {at from most next : ℕ} {left whole : List ℕ} (values : List ℕ) (i : ℕ) → length values ≡ width
     → i < width → Leads out at (valuesFrom values i) out₀ from whole → Placed out at (fieldText comma (getD values i 0)) most next left
@@ -141,8 +141,8 @@ records-more records trace i h more =
     let n : records - i ≡ suc (records - (i + 1)) = omega arith in
     let k : recordWords * i + 1 + 1 ≡ recordWords * (i + 1) = omega arith in
     ap₂ (λ (m : ℕ) (ws : List ℕ). recordsText (recordsOf m ws)) n
-    (drop-at trace (recordWords * i) (omega arith)
-    ∙ ap (λ (ws : List ℕ). getD trace (recordWords * i) 0 ∷ ws) (drop-at trace (recordWords * i + 1) (omega arith)))
+    (drop-next trace (recordWords * i) (omega arith)
+    ∙ ap (λ (ws : List ℕ). getD trace (recordWords * i) 0 ∷ ws) (drop-next trace (recordWords * i + 1) (omega arith)))
     ∙ ap (λ (j : ℕ). recordText (recordAt trace i) ++ recordsText (recordsOf (records - (i + 1)) (drop j trace))) k
 
 pub records-start : (out : List ℕ) (from records : ℕ) (trace : List ℕ)

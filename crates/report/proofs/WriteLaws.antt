@@ -9,7 +9,7 @@ use lib.ListN.{length, getD, set, drop, length-append, drop-of-length-le}
 use lib.Seq.{sets}
 use Rattle.lines.specs.Limits.{mostDigits}
 use Rattle.lines.specs.Numbers.{zeroByte, decimal}
-use Rattle.lines.proofs.NumberLaws.{drop-at}
+use Rattle.lines.proofs.NumberLaws.{drop-next}
 use Rattle.lines.proofs.DecimalLaws.{decimal-small, decimal-more, decimal-few}
 use Rattle.report.specs.Written.{Placed}
 
@@ -51,7 +51,7 @@ module _ {out : List ℕ} {at : ℕ} {out₀ : List ℕ} {at₀ : ℕ} {whole : 
 pub leads-byte : {out : List ℕ} {i : ℕ} {out₀ : List ℕ} {at₀ : ℕ} {whole : List ℕ} (text : List ℕ) (j : ℕ) → j < length text
     → Leads out i (drop j text) out₀ at₀ whole → Leads (set out i (getD text j 0)) (i + 1) (drop (j + 1) text) out₀ at₀ whole
 leads-byte {out} {i} text j h l =
-    let e = drop-at text j h in
+    let e = drop-next text j h in
     record {
       place = omega (arith, l .place, ap length e);
       kept =

@@ -3,7 +3,7 @@
 use Prim.Native.Nat.{ℕ, zero, suc, _+_, _≤_}
 use native.Mathlib.Omega.{arith}
 use mathlib.Core.Bool.{Bool, true, false, cond, _||_, _&&_, true≢false}
-use mathlib.Core.List.{List, [], _∷_, _++_, append-assoc}
+use mathlib.Core.List.{List, [], _∷_, _++_, append-assoc, append-nil}
 use mathlib.Core.Logic.{_≢_, _⊎_, inl, inr}
 use mathlib.Core.Path.{_≡_, refl, sym, ap, ap₂, _∙_, subst}
 use lib.Dec.{eqb, ltb}
@@ -44,10 +44,6 @@ grows :
     → Begins (settledRecords r) (settledRecords (final terms b (state k m l p r n) .records))
 grows terms b k m l p r n = run-keeps (λ k′ m′ l′ p′ r′. Begins (settledRecords r) (settledRecords r′)) keeps terms b (state k m l p r n) ([], sym (append-nil (settledRecords r)))
   where
-    append-nil : (a : List Record) → a ++ [] ≡ a
-    append-nil [] = refl
-    append-nil (x ∷ a) = ap (λ (t : List Record). x ∷ t) (append-nil a)
-
     keeps : Keeps (λ k′ m′ l′ p′ r′. Begins (settledRecords r) (settledRecords r′))
     keeps = record {
       skip-kept = λ f. f;
