@@ -15,62 +15,69 @@ use Rattle.rules.specs.Limits.{recordWords, mostTraceWords}
 use Rattle.rules.specs.Rows.{rowsOf}
 use Rattle.rules.specs.Trees.{recipe}
 use Rattle.rules.specs.Judging.{orElse, judge, judgeTrace}
-use Rattle.rules.specs.Running.{statement, start, Record}
+use Rattle.rules.specs.Running.{statement, State, state, blank, start, Record}
 use Rattle.rules.specs.LevelCheck.{walk, checkedOf}
-use Rattle.rules.specs.Answers.{Told, Said, accepted, refused, verdict, pass, fail, saidOfJudge, saidOfRun, saidOfCheck, Whole, answered, termsOf, answer, traceWordsOf, traceAfter, advised, advice, judgement, toldOf, telling}
-use Rattle.rules.proofs.RunLaws.{state, final}
+use Rattle.rules.specs.Answers.{Told, Said, accepted, refused, verdict, pass, fail, saidOfJudge, saidOfRun, saidOfCheck, Whole, Inputs, final, started, admitted, answered, termsOf, answer, traceWordsOf, traceAfter, advised, advice, judgement, toldOf, telling}
 use Rattle.rules.specs.Sound.{Sound}
 use Rattle.rules.proofs.JudgeLaws.{orElse-accepted, accepted-sound}
 
--- the state from which a recipe starts
-pub start-law : (words : List ℕ) (m : List ℕ) (l : ℕ) → start (recipe (rowsOf words)) m l ≡ state (statement (recipe (rowsOf words)) ∷ []) m l [] [] 0
+-- the state from which a recipe starts, by its parts
+abbrev pub startOf : List ℕ → List ℕ → ℕ → State
+startOf words memory marks = state (statement (recipe (rowsOf words)) ∷ []) memory marks [] blank
+
+pub start-law : (words m : List ℕ) (l : ℕ) → start (recipe (rowsOf words)) m l ≡ startOf words m l
 unfolding start
 start-law words m l = refl
 
+-- what the run of an accepted table shows
+abbrev pub shownOf : Inputs → Whole
+shownOf i = final (termsOf (length (i .trace))) (i .budget) (startOf (i .words) (i .memory) (i .marks))
+
 -- what a refused run answers
-abbrev pub turnedAway : ℕ → ℕ → List ℕ → ℕ → Whole
-turnedAway number row memory marks = record { said = refused number row; steps = 0; records = []; memory = memory; marks = marks }
+abbrev pub turnedAway : ℕ → ℕ → Inputs → Whole
+turnedAway number row i = record { said = refused number row; steps = 0; records = []; memory = i .memory; marks = i .marks }
 
 -- A call runs, on an accepted table, or is refused.
-pub data Call (words m : List ℕ) (l b w : ℕ) : Type 0 where
-  ran :
-      judge words ≡ Judged.Accepted
-      → answer words m l b w ≡ final (termsOf w) b (state (statement (recipe (rowsOf words)) ∷ []) m l [] [] 0) → Call words m l b w
-  away : (number row : ℕ) → answer words m l b w ≡ turnedAway number row m l → Call words m l b w
+pub data Call (i : Inputs) : Type 0 where
+  ran : judge (i .words) ≡ Judged.Accepted → answer i ≡ shownOf i → Call i
+  away : (number row : ℕ) → answer i ≡ turnedAway number row i → Call i
 
-pub call : (words m : List ℕ) (l b w : ℕ) → Call words m l b w
-unfolding answer answered start
-call words m l b w = by (orElse (judge words) (judgeTrace w)) refl
+-- the answer, by what is said of table and trace
+by-judged : Inputs → Judged → Whole
+by-judged i j = answered j (termsOf (length (i .trace))) (i .budget) (started i)
+
+pub call : (i : Inputs) → Call i
+unfolding answer answered start by-judged
+call i = by (admitted i) refl
   where
-    by : (j : Judged) → orElse (judge words) (judgeTrace w) ≡ j → Call words m l b w
-    by Judged.Accepted e =
-        ran (orElse-accepted (judge words) (judgeTrace w) e .0)
-        (ap (λ (j : Judged). answered j (termsOf w) b (start (recipe (rowsOf words)) m l)) e)
-    by (Judged.Refused number row) e =
-        away number row (ap (λ (j : Judged). answered j (termsOf w) b (start (recipe (rowsOf words)) m l)) e)
+    by : (j : Judged) → admitted i ≡ j → Call i
+    by Judged.Accepted e = ran (orElse-accepted (judge (i .words)) (judgeTrace (length (i .trace))) e .0) (ap (by-judged i) e)
+    by (Judged.Refused number row) e = away number row (ap (by-judged i) e)
 
 -- ---- the three ways of a call
 
-pub answer-refused :
-    (words m : List ℕ) (l b w number row : ℕ) → judge words ≡ Judged.Refused number row → answer words m l b w ≡ turnedAway number row m l
-unfolding answer answered start orElse
-answer-refused words m l b w number row e =
-    ap (λ (j : Judged). answered (orElse j (judgeTrace w)) (termsOf w) b (start (recipe (rowsOf words)) m l)) e
+pub answer-refused : (i : Inputs) (number row : ℕ) → judge (i .words) ≡ Judged.Refused number row → answer i ≡ turnedAway number row i
+unfolding answer answered orElse by-judged start
+answer-refused i number row e = ap (λ (j : Judged). by-judged i (orElse j (judgeTrace (length (i .trace))))) e
 
-pub answer-oversized :
-    (words m : List ℕ) (l b w : ℕ) → judge words ≡ Judged.Accepted → mostTraceWords < w → answer words m l b w ≡ turnedAway 6 0 m l
-unfolding answer answered start orElse judgeTrace
-answer-oversized words m l b w e over =
-    ap (λ (j : Judged). answered (orElse j (judgeTrace w)) (termsOf w) b (start (recipe (rowsOf words)) m l)) e
-    ∙ ap (λ (c : Bool). answered (cond c (Judged.Refused 6 0) Judged.Accepted) (termsOf w) b (start (recipe (rowsOf words)) m l)) (lt-ltb mostTraceWords w over)
+pub answer-oversized : (i : Inputs) → judge (i .words) ≡ Judged.Accepted → mostTraceWords < length (i .trace) → answer i ≡ turnedAway 6 0 i
+unfolding answer answered orElse judgeTrace by-judged start
+answer-oversized i e over =
+    ap (λ (j : Judged). by-judged i (orElse j (judgeTrace (length (i .trace))))) e
+    ∙ ap (λ (c : Bool). by-judged i (cond c (Judged.Refused 6 0) Judged.Accepted)) (lt-ltb mostTraceWords (length (i .trace)) over)
 
-pub answer-ran :
-    (words m : List ℕ) (l b w : ℕ) → judge words ≡ Judged.Accepted → w ≤ mostTraceWords
-    → answer words m l b w ≡ final (termsOf w) b (state (statement (recipe (rowsOf words)) ∷ []) m l [] [] 0)
-unfolding answer answered start orElse judgeTrace
-answer-ran words m l b w e fits =
-    ap (λ (j : Judged). answered (orElse j (judgeTrace w)) (termsOf w) b (start (recipe (rowsOf words)) m l)) e
-    ∙ ap (λ (c : Bool). answered (cond c (Judged.Refused 6 0) Judged.Accepted) (termsOf w) b (start (recipe (rowsOf words)) m l)) (le-ltb mostTraceWords w fits)
+pub answer-ran : (i : Inputs) → judge (i .words) ≡ Judged.Accepted → length (i .trace) ≤ mostTraceWords → answer i ≡ shownOf i
+unfolding answer answered orElse judgeTrace by-judged start
+answer-ran i e fits =
+    ap (λ (j : Judged). by-judged i (orElse j (judgeTrace (length (i .trace))))) e
+    ∙ ap (λ (c : Bool). by-judged i (cond c (Judged.Refused 6 0) Judged.Accepted)) (le-ltb mostTraceWords (length (i .trace)) fits)
+
+-- the answer depends on the trace by its length alone
+pub answer-room : (words m : List ℕ) (l b : ℕ) (t t′ : List ℕ) → length t ≡ length t′
+    → answer (record { words = words; memory = m; marks = l; budget = b; trace = t }) ≡ answer (record { words = words; memory = m; marks = l; budget = b; trace = t′ })
+unfolding answer
+answer-room words m l b t t′ e =
+    ap (λ (n : ℕ). answered (orElse (judge words) (judgeTrace n)) (termsOf n) b (start (recipe (rowsOf words)) m l)) e
 
 -- ---- what an answer tells
 

@@ -13,7 +13,7 @@ use Rattle.rules.specs.Trees.{Stmt, skip, assign, sequence, if, while, o
 use Rattle.rules.specs.Judging.{judge}
 use Rattle.rules.specs.Marks.{none, provisional}
 use Rattle.rules.specs.Values.{level, mayAssign}
-use Rattle.rules.specs.Running.{Item, statement, close, Record, context, push}
+use Rattle.rules.specs.Running.{Item, statement, close, context, push}
 use Rattle.rules.specs.Sound.{Sound}
 use Rattle.rules.proofs.MarkLaws.{none-lt, put-lt, union-lt, union-lt-left, union-lt-right, only-in-range}
 use Rattle.rules.proofs.JudgeLaws.{accepted-sound}
@@ -51,26 +51,26 @@ push-small false set p h small = small
 
 -- a test was looked at: what comes next has room, and one close more is pending
 opens :
-    (k k′ : List Item) (m : List ℕ) (l : ℕ) (p : List ℕ) (r : List Record) (b : Bool) (set : ℕ) → set < 2 ^ width
-    → closes k′ ≡ closes k + 1 → Roomy k′ → l < 2 ^ width → length p ≤ closes k → Small p → Bounds k′ m l (push b set p) r
-opens k k′ m l p r b set h one roomy marks pile sets = record {
+    (k k′ : List Item) (l : ℕ) (p : List ℕ) (b : Bool) (set : ℕ) → set < 2 ^ width
+    → closes k′ ≡ closes k + 1 → Roomy k′ → l < 2 ^ width → length p ≤ closes k → Small p → Bounds k′ l (push b set p)
+opens k k′ l p b set h one roomy marks pile sets = record {
   marks = marks;
   pile = omega (arith, push-length b set p);
   sets = push-small b set p h sets;
   roomy = roomy;
 }
 
-pub bounds-kept : Keeps Bounds
+pub bounds-kept : Keeps (λ k m l p g. Bounds k l p)
 bounds-kept = record {
   skip-kept = λ f. record { marks = f .marks; pile = f .pile; sets = f .sets; roomy = f .roomy .3 };
-  assign-kept = λ {k} {m} {l} {p} {r} {v} {e} f.
+  assign-kept = λ {k} {m} {l} {p} {g} {v} {e} f.
       record {
         marks = put-lt width v (provisional (level l e) || context p) l (only-in-range width v (f .roomy .2)) (f .marks);
         pile = f .pile;
         sets = f .sets;
         roomy = f .roomy .3;
       };
-  sequence-kept = λ {k} {m} {l} {p} {r} {s} {t} f.
+  sequence-kept = λ {k} {m} {l} {p} {g} {s} {t} f.
       let a = f .roomy .0 in
       let b = f .roomy .1 in
       record {
@@ -84,31 +84,31 @@ bounds-kept = record {
           (omega arith, omega arith, union-lt-right (2 ^ width) (mayAssign s) (mayAssign t) (f .roomy .2), f .roomy .3),
         );
       };
-  then-kept = λ {k} {m} {l} {p} {r} {e} {s} {t} f.
+  then-kept = λ {k} {m} {l} {p} {g} {e} {s} {t} f.
       let a = f .roomy .0 in
       let b = f .roomy .1 in
-      opens k (statement s ∷ close ∷ k) m l p r (provisional (level l e) || context p) (mayAssign t)
+      opens k (statement s ∷ close ∷ k) l p (provisional (level l e) || context p) (mayAssign t)
       (union-lt-right (2 ^ width) (mayAssign s) (mayAssign t) (f .roomy .2)) refl
       (omega arith, omega arith, union-lt-left (2 ^ width) (mayAssign s) (mayAssign t) (f .roomy .2), (omega arith, omega arith, f .roomy .3))
       (f .marks) (f .pile) (f .sets);
-  else-kept = λ {k} {m} {l} {p} {r} {e} {s} {t} f.
+  else-kept = λ {k} {m} {l} {p} {g} {e} {s} {t} f.
       let a = f .roomy .0 in
       let b = f .roomy .1 in
-      opens k (statement t ∷ close ∷ k) m l p r (provisional (level l e) || context p) (mayAssign s)
+      opens k (statement t ∷ close ∷ k) l p (provisional (level l e) || context p) (mayAssign s)
       (union-lt-left (2 ^ width) (mayAssign s) (mayAssign t) (f .roomy .2)) refl
       (omega arith, omega arith, union-lt-right (2 ^ width) (mayAssign s) (mayAssign t) (f .roomy .2), (omega arith, omega arith, f .roomy .3))
       (f .marks) (f .pile) (f .sets);
-  turn-kept = λ {k} {m} {l} {p} {r} {e} {s} f.
+  turn-kept = λ {k} {m} {l} {p} {g} {e} {s} f.
       let a = f .roomy .0 in
       let b = f .roomy .1 in
-      opens k (statement s ∷ close ∷ statement (while e s) ∷ k) m l p r (provisional (level l e) || context p) none (none-lt width) refl
+      opens k (statement s ∷ close ∷ statement (while e s) ∷ k) l p (provisional (level l e) || context p) none (none-lt width) refl
       (omega arith, omega arith, f .roomy .2, (omega arith, omega arith, f .roomy)) (f .marks) (f .pile) (f .sets);
-  leave-kept = λ {k} {m} {l} {p} {r} {e} {s} f.
+  leave-kept = λ {k} {m} {l} {p} {g} {e} {s} f.
       let a = f .roomy .0 in
       let b = f .roomy .1 in
-      opens k (close ∷ k) m l p r (provisional (level l e) || context p) (mayAssign s) (f .roomy .2) refl (omega arith, omega arith, f .roomy .3)
+      opens k (close ∷ k) l p (provisional (level l e) || context p) (mayAssign s) (f .roomy .2) refl (omega arith, omega arith, f .roomy .3)
       (f .marks) (f .pile) (f .sets);
-  close-kept = λ {k} {m} {l} {top} {p} {r} f.
+  close-kept = λ {k} {m} {l} {top} {p} {g} f.
       let a = f .pile in
       record { marks = union-lt width top l (f .sets .0) (f .marks); pile = omega arith; sets = f .sets .1; roomy = f .roomy .2 };
   close-empty-kept = λ f. record { marks = f .marks; pile = omega arith; sets = tt; roomy = f .roomy .2 };
@@ -132,8 +132,8 @@ each-small [] small i h = absurd (not-suc-le-zero h)
 each-small (set ∷ p) small zero h = small .0
 each-small (set ∷ p) small (suc i) h = each-small p (small .1) i (omega arith)
 
-pub bounds-start : (words memory : List ℕ) (marks : ℕ) → judge words ≡ Judged.Accepted → marks < 2 ^ width → Bounds (statement (recipe (rowsOf words)) ∷ []) memory marks [] []
-bounds-start words memory marks e small =
+pub bounds-start : (words : List ℕ) (marks : ℕ) → judge words ≡ Judged.Accepted → marks < 2 ^ width → Bounds (statement (recipe (rowsOf words)) ∷ []) marks []
+bounds-start words marks e small =
     let sound : Sound (rowsOf words) = accepted-sound words e in
     let some : 0 < length (rowsOf words) = sound .some in
     let few : length (rowsOf words) ≤ mostRows = sound .few in

@@ -11,9 +11,8 @@ use Rattle.rules.specs.declared.Ended.{Ended}
 use Rattle.rules.specs.Marks.{none, put, union, provisional}
 use Rattle.rules.specs.Trees.{Expr, Stmt, skip, assign, sequence, if, while, output}
 use Rattle.rules.specs.Values.{value, holds, level, mayAssign}
-use Rattle.rules.specs.Running.{Item, statement, close, Record, State, Terms, context, guarded, push, skipped, assigned, opened, branched, turned, closedMarks, popped, closed, recorded, Attempt, finished, denied, roomless, taken, isDenied, outputAttempt, begin, attempt, Outcome, atBudget, follow, run}
+use Rattle.rules.specs.Running.{Item, statement, close, Log, State, state, Terms, context, guarded, push, counted, noted, skipped, assigned, opened, branched, turned, closedMarks, popped, closed, recorded, Attempt, finished, denied, roomless, taken, isDenied, outputAttempt, begin, attempt, attempted, Outcome, atBudget, follow, run}
 use Rattle.rules.specs.Answers.{refused, saidOfRun}
-use Rattle.rules.proofs.RunLaws.{state}
 
 -- the fact holds of the state after the step, if the step was taken
 abbrev Kept : (State → Type 0) → Attempt → Type 0
@@ -23,49 +22,49 @@ Kept Fact (roomless row) = Unit {0}
 Kept Fact (taken σ) = Fact σ
 
 -- Every step keeps the fact: one field for each line of "How a run goes".
-pub record Keeps (Fact : List Item → List ℕ → ℕ → List ℕ → List Record → Type 0) : Type 0 where
+pub record Keeps (Fact : List Item → List ℕ → ℕ → List ℕ → Log → Type 0) : Type 0 where
   pub skip-kept :
-      {k : List Item} {m : List ℕ} {l : ℕ} {p : List ℕ} {r : List Record} → Fact (statement skip ∷ k) m l p r → Fact k m l p r
+      {k : List Item} {m : List ℕ} {l : ℕ} {p : List ℕ} {g : Log} → Fact (statement skip ∷ k) m l p g → Fact k m l p (counted g)
   pub assign-kept :
-      {k : List Item} {m : List ℕ} {l : ℕ} {p : List ℕ} {r : List Record} {v : ℕ} {e : Expr} → Fact (statement (assign v e) ∷ k) m l p r
-      → Fact k (set m v (value m e)) (put v (provisional (level l e) || context p) l) p r
+      {k : List Item} {m : List ℕ} {l : ℕ} {p : List ℕ} {g : Log} {v : ℕ} {e : Expr} → Fact (statement (assign v e) ∷ k) m l p g
+      → Fact k (set m v (value m e)) (put v (provisional (level l e) || context p) l) p (counted g)
   pub sequence-kept :
-      {k : List Item} {m : List ℕ} {l : ℕ} {p : List ℕ} {r : List Record} {s t : Stmt} → Fact (statement (sequence s t) ∷ k) m l p r
-      → Fact (statement s ∷ statement t ∷ k) m l p r
+      {k : List Item} {m : List ℕ} {l : ℕ} {p : List ℕ} {g : Log} {s t : Stmt} → Fact (statement (sequence s t) ∷ k) m l p g
+      → Fact (statement s ∷ statement t ∷ k) m l p g
   pub then-kept :
-      {k : List Item} {m : List ℕ} {l : ℕ} {p : List ℕ} {r : List Record} {e : Expr} {s t : Stmt} → Fact (statement (if e s t) ∷ k) m l p r
-      → Fact (statement s ∷ close ∷ k) m l (push (provisional (level l e) || context p) (mayAssign t) p) r
+      {k : List Item} {m : List ℕ} {l : ℕ} {p : List ℕ} {g : Log} {e : Expr} {s t : Stmt} → Fact (statement (if e s t) ∷ k) m l p g
+      → Fact (statement s ∷ close ∷ k) m l (push (provisional (level l e) || context p) (mayAssign t) p) (counted g)
   pub else-kept :
-      {k : List Item} {m : List ℕ} {l : ℕ} {p : List ℕ} {r : List Record} {e : Expr} {s t : Stmt} → Fact (statement (if e s t) ∷ k) m l p r
-      → Fact (statement t ∷ close ∷ k) m l (push (provisional (level l e) || context p) (mayAssign s) p) r
+      {k : List Item} {m : List ℕ} {l : ℕ} {p : List ℕ} {g : Log} {e : Expr} {s t : Stmt} → Fact (statement (if e s t) ∷ k) m l p g
+      → Fact (statement t ∷ close ∷ k) m l (push (provisional (level l e) || context p) (mayAssign s) p) (counted g)
   pub turn-kept :
-      {k : List Item} {m : List ℕ} {l : ℕ} {p : List ℕ} {r : List Record} {e : Expr} {s : Stmt} → Fact (statement (while e s) ∷ k) m l p r
-      → Fact (statement s ∷ close ∷ statement (while e s) ∷ k) m l (push (provisional (level l e) || context p) none p) r
+      {k : List Item} {m : List ℕ} {l : ℕ} {p : List ℕ} {g : Log} {e : Expr} {s : Stmt} → Fact (statement (while e s) ∷ k) m l p g
+      → Fact (statement s ∷ close ∷ statement (while e s) ∷ k) m l (push (provisional (level l e) || context p) none p) (counted g)
   pub leave-kept :
-      {k : List Item} {m : List ℕ} {l : ℕ} {p : List ℕ} {r : List Record} {e : Expr} {s : Stmt} → Fact (statement (while e s) ∷ k) m l p r
-      → Fact (close ∷ k) m l (push (provisional (level l e) || context p) (mayAssign s) p) r
+      {k : List Item} {m : List ℕ} {l : ℕ} {p : List ℕ} {g : Log} {e : Expr} {s : Stmt} → Fact (statement (while e s) ∷ k) m l p g
+      → Fact (close ∷ k) m l (push (provisional (level l e) || context p) (mayAssign s) p) (counted g)
   pub close-kept :
-      {k : List Item} {m : List ℕ} {l : ℕ} {top : ℕ} {p : List ℕ} {r : List Record} → Fact (close ∷ k) m l (top ∷ p) r
-      → Fact k m (union top l) p r
-  pub close-empty-kept : {k : List Item} {m : List ℕ} {l : ℕ} {r : List Record} → Fact (close ∷ k) m l [] r → Fact k m l [] r
+      {k : List Item} {m : List ℕ} {l : ℕ} {top : ℕ} {p : List ℕ} {g : Log} → Fact (close ∷ k) m l (top ∷ p) g
+      → Fact k m (union top l) p (counted g)
+  pub close-empty-kept : {k : List Item} {m : List ℕ} {l : ℕ} {g : Log} → Fact (close ∷ k) m l [] g → Fact k m l [] (counted g)
   pub record-kept :
-      {k : List Item} {m : List ℕ} {l : ℕ} {p : List ℕ} {r : List Record} {channel : ℕ} {e : Expr} {row : ℕ}
-      → Fact (statement (output channel e row) ∷ k) m l p r
-      → Fact k m l p (r ++ (record { channel = channel; value = value m e } ∷ []))
+      {k : List Item} {m : List ℕ} {l : ℕ} {p : List ℕ} {g : Log} {channel : ℕ} {e : Expr} {row : ℕ}
+      → Fact (statement (output channel e row) ∷ k) m l p g
+      → Fact k m l p (noted (record { channel = channel; value = value m e }) g)
 
-module _ (Fact : List Item → List ℕ → ℕ → List ℕ → List Record → Type 0) (keeps : Keeps Fact) (terms : Terms) where
+module _ (Fact : List Item → List ℕ → ℕ → List ℕ → Log → Type 0) (keeps : Keeps Fact) (terms : Terms) where
   abbrev Of : State → Type 0
-  Of σ = Fact (σ .pending) (σ .memory) (σ .marks) (σ .pile) (σ .records)
+  Of σ = Fact (σ .pending) (σ .memory) (σ .marks) (σ .pile) (σ .log)
 
   branched-kept :
-      (b : Bool) (e : Expr) (s t : Stmt) (k : List Item) (σ : State) → Fact (statement (if e s t) ∷ k) (σ .memory) (σ .marks) (σ .pile) (σ .records)
+      (b : Bool) (e : Expr) (s t : Stmt) (k : List Item) (σ : State) → Fact (statement (if e s t) ∷ k) (σ .memory) (σ .marks) (σ .pile) (σ .log)
       → Of (branched b e s t k σ)
   unfolding branched opened guarded
   branched-kept true e s t k σ f = keeps .then-kept f
   branched-kept false e s t k σ f = keeps .else-kept f
 
   turned-kept :
-      (b : Bool) (e : Expr) (s : Stmt) (k : List Item) (σ : State) → Fact (statement (while e s) ∷ k) (σ .memory) (σ .marks) (σ .pile) (σ .records)
+      (b : Bool) (e : Expr) (s : Stmt) (k : List Item) (σ : State) → Fact (statement (while e s) ∷ k) (σ .memory) (σ .marks) (σ .pile) (σ .log)
       → Of (turned b e s k σ)
   unfolding turned opened guarded
   turned-kept true e s k σ f = keeps .turn-kept f
@@ -78,7 +77,7 @@ module _ (Fact : List Item → List ℕ → ℕ → List ℕ → List Record →
   output-kept false true row σ f = f
 
   begin-kept :
-      (s : Stmt) (k : List Item) (σ : State) → Fact (statement s ∷ k) (σ .memory) (σ .marks) (σ .pile) (σ .records)
+      (s : Stmt) (k : List Item) (σ : State) → Fact (statement s ∷ k) (σ .memory) (σ .marks) (σ .pile) (σ .log)
       → Kept Of (begin terms s k σ)
   unfolding begin skipped assigned guarded recorded
   begin-kept skip k σ f = keeps .skip-kept f
@@ -87,22 +86,22 @@ module _ (Fact : List Item → List ℕ → ℕ → List ℕ → List Record →
   begin-kept (if e s t) k σ f = branched-kept (holds (σ .memory) e) e s t k σ f
   begin-kept (while e s) k σ f = turned-kept (holds (σ .memory) e) e s k σ f
   begin-kept (output channel e row) k σ f =
-      output-kept (isDenied channel e σ) (ltb (length (σ .records)) (terms .room)) row (recorded channel e k σ) (keeps .record-kept f)
+      output-kept (isDenied channel e σ) (ltb (length (σ .log .records)) (terms .room)) row (recorded channel e k σ) (keeps .record-kept f)
 
   closed-kept :
-      (k : List Item) (m : List ℕ) (l : ℕ) (p : List ℕ) (r : List Record) (n : ℕ) → Fact (close ∷ k) m l p r
-      → Of (closed k (state (close ∷ k) m l p r n))
+      (k : List Item) (m : List ℕ) (l : ℕ) (p : List ℕ) (g : Log) → Fact (close ∷ k) m l p g
+      → Of (closed k (state (close ∷ k) m l p g))
   unfolding closed closedMarks popped
-  closed-kept k m l [] r n f = keeps .close-empty-kept f
-  closed-kept k m l (top ∷ p) r n f = keeps .close-kept f
+  closed-kept k m l [] g f = keeps .close-empty-kept f
+  closed-kept k m l (top ∷ p) g f = keeps .close-kept f
 
   attempt-kept :
-      (k : List Item) (m : List ℕ) (l : ℕ) (p : List ℕ) (r : List Record) (n : ℕ) → Fact k m l p r
-      → Kept Of (attempt terms k (state k m l p r n))
+      (k : List Item) (m : List ℕ) (l : ℕ) (p : List ℕ) (g : Log) → Fact k m l p g
+      → Kept Of (attempt terms k (state k m l p g))
   unfolding attempt
-  attempt-kept [] m l p r n f = tt
-  attempt-kept (statement s ∷ k) m l p r n f = begin-kept s k (state (statement s ∷ k) m l p r n) f
-  attempt-kept (close ∷ k) m l p r n f = closed-kept k m l p r n f
+  attempt-kept [] m l p g f = tt
+  attempt-kept (statement s ∷ k) m l p g f = begin-kept s k (state (statement s ∷ k) m l p g) f
+  attempt-kept (close ∷ k) m l p g f = closed-kept k m l p g f
 
   followed : (onward : State → Outcome) → ((σ : State) → Of σ → Of (onward σ .state)) → (σ : State) (a : Attempt) → Of σ → Kept Of a → Of (follow onward σ a .state)
   unfolding follow
@@ -116,32 +115,32 @@ module _ (Fact : List Item → List ℕ → ℕ → List ℕ → List Record →
   unfolding run
   run-keeps zero σ f = f
   run-keeps (suc budget) σ f =
-      followed (run terms budget) (λ next g. run-keeps budget next g) σ (attempt terms (σ .pending) σ) f
-      (attempt-kept (σ .pending) (σ .memory) (σ .marks) (σ .pile) (σ .records) (σ .steps) f)
+      followed (run terms budget) (λ next g. run-keeps budget next g) σ (attempted terms σ) f
+      (attempt-kept (σ .pending) (σ .memory) (σ .marks) (σ .pile) (σ .log) f)
 
 -- ---- a step that is taken counts one
 
 abbrev Counts : ℕ → Attempt → Type 0
-Counts n a = Kept (λ (σ : State). σ .steps ≡ n + 1) a
+Counts n a = Kept (λ (σ : State). σ .log .steps ≡ n + 1) a
 
 module _ (terms : Terms) where
-  branched-counts : (b : Bool) (e : Expr) (s t : Stmt) (k : List Item) (σ : State) → branched b e s t k σ .steps ≡ σ .steps + 1
+  branched-counts : (b : Bool) (e : Expr) (s t : Stmt) (k : List Item) (σ : State) → branched b e s t k σ .log .steps ≡ σ .log .steps + 1
   unfolding branched opened
   branched-counts true e s t k σ = refl
   branched-counts false e s t k σ = refl
 
-  turned-counts : (b : Bool) (e : Expr) (s : Stmt) (k : List Item) (σ : State) → turned b e s k σ .steps ≡ σ .steps + 1
+  turned-counts : (b : Bool) (e : Expr) (s : Stmt) (k : List Item) (σ : State) → turned b e s k σ .log .steps ≡ σ .log .steps + 1
   unfolding turned opened
   turned-counts true e s k σ = refl
   turned-counts false e s k σ = refl
 
-  output-counts : (deny room : Bool) (row n : ℕ) (σ : State) → σ .steps ≡ n + 1 → Counts n (outputAttempt deny room row σ)
+  output-counts : (deny room : Bool) (row n : ℕ) (σ : State) → σ .log .steps ≡ n + 1 → Counts n (outputAttempt deny room row σ)
   unfolding outputAttempt
   output-counts true room row n σ e = tt
   output-counts false false row n σ e = tt
   output-counts false true row n σ e = e
 
-  begin-counts : (s : Stmt) (k : List Item) (σ : State) → Counts (σ .steps) (begin terms s k σ)
+  begin-counts : (s : Stmt) (k : List Item) (σ : State) → Counts (σ .log .steps) (begin terms s k σ)
   unfolding begin skipped assigned recorded
   begin-counts skip k σ = refl
   begin-counts (assign v e) k σ = refl
@@ -149,28 +148,28 @@ module _ (terms : Terms) where
   begin-counts (if e s t) k σ = branched-counts (holds (σ .memory) e) e s t k σ
   begin-counts (while e s) k σ = turned-counts (holds (σ .memory) e) e s k σ
   begin-counts (output channel e row) k σ =
-      output-counts (isDenied channel e σ) (ltb (length (σ .records)) (terms .room)) row (σ .steps) (recorded channel e k σ) refl
+      output-counts (isDenied channel e σ) (ltb (length (σ .log .records)) (terms .room)) row (σ .log .steps) (recorded channel e k σ) refl
 
-  attempt-counts : (k : List Item) (σ : State) → Counts (σ .steps) (attempt terms k σ)
+  attempt-counts : (k : List Item) (σ : State) → Counts (σ .log .steps) (attempt terms k σ)
   unfolding attempt closed
   attempt-counts [] σ = tt
   attempt-counts (statement s ∷ k) σ = begin-counts s k σ
   attempt-counts (close ∷ k) σ = refl
 
   follow-steps :
-      (onward : State → Outcome) (budget : ℕ) → ((σ : State) → onward σ .state .steps ≤ σ .steps + budget) → (σ : State) (a : Attempt)
-      → Counts (σ .steps) a → follow onward σ a .state .steps ≤ σ .steps + suc budget
+      (onward : State → Outcome) (budget : ℕ) → ((σ : State) → onward σ .state .log .steps ≤ σ .log .steps + budget) → (σ : State) (a : Attempt)
+      → Counts (σ .log .steps) a → follow onward σ a .state .log .steps ≤ σ .log .steps + suc budget
   unfolding follow
   follow-steps onward budget later σ finished c = omega arith
   follow-steps onward budget later σ (denied row) c = omega arith
   follow-steps onward budget later σ (roomless row) c = omega arith
   follow-steps onward budget later σ (taken next) c = omega (arith, later next)
 
-  pub run-steps : (budget : ℕ) (σ : State) → run terms budget σ .state .steps ≤ σ .steps + budget
+  pub run-steps : (budget : ℕ) (σ : State) → run terms budget σ .state .log .steps ≤ σ .log .steps + budget
   unfolding run
   run-steps zero σ = omega arith
   run-steps (suc budget) σ =
-      follow-steps (run terms budget) budget (λ next. run-steps budget next) σ (attempt terms (σ .pending) σ)
+      follow-steps (run terms budget) budget (λ next. run-steps budget next) σ (attempted terms σ)
       (attempt-counts (σ .pending) σ)
 
 -- ---- done exactly when nothing is pending
@@ -208,27 +207,27 @@ module _ (terms : Terms) where
   begin-unfinished (if e s t) k σ = tt
   begin-unfinished (while e s) k σ = tt
   begin-unfinished (output channel e row) k σ =
-      output-unfinished (isDenied channel e σ) (ltb (length (σ .records)) (terms .room)) row (recorded channel e k σ)
+      output-unfinished (isDenied channel e σ) (ltb (length (σ .log .records)) (terms .room)) row (recorded channel e k σ)
 
   follow-told :
       (onward : State → Outcome) → ((σ : State) → Told (onward σ)) → (item : Item) (k : List Item) (m : List ℕ) (l : ℕ) (p : List ℕ)
-      (r : List Record) (n : ℕ) (a : Attempt) → Unfinished a → Told (follow onward (state (item ∷ k) m l p r n) a)
+      (g : Log) (a : Attempt) → Unfinished a → Told (follow onward (state (item ∷ k) m l p g) a)
   unfolding follow
-  follow-told onward later item k m l p r n finished u = absurd u
-  follow-told onward later item k m l p r n (denied row) u = busy (λ d. d) item k refl
-  follow-told onward later item k m l p r n (roomless row) u = busy (λ d. d) item k refl
-  follow-told onward later item k m l p r n (taken next) u = later next
+  follow-told onward later item k m l p g finished u = absurd u
+  follow-told onward later item k m l p g (denied row) u = busy (λ d. d) item k refl
+  follow-told onward later item k m l p g (roomless row) u = busy (λ d. d) item k refl
+  follow-told onward later item k m l p g (taken next) u = later next
 
-  told : (budget : ℕ) (k : List Item) (m : List ℕ) (l : ℕ) (p : List ℕ) (r : List Record) (n : ℕ) → Told (run terms budget (state k m l p r n))
+  told : (budget : ℕ) (k : List Item) (m : List ℕ) (l : ℕ) (p : List ℕ) (g : Log) → Told (run terms budget (state k m l p g))
   unfolding run atBudget attempt follow closed
-  told zero [] m l p r n = idle refl refl
-  told zero (item ∷ k) m l p r n = busy (λ d. d) item k refl
-  told (suc budget) [] m l p r n = idle refl refl
-  told (suc budget) (statement s ∷ k) m l p r n =
-      follow-told (run terms budget) (λ σ. told budget (σ .pending) (σ .memory) (σ .marks) (σ .pile) (σ .records) (σ .steps)) (statement s) k m l p r n
-      (begin terms s k (state (statement s ∷ k) m l p r n)) (begin-unfinished s k (state (statement s ∷ k) m l p r n))
-  told (suc budget) (close ∷ k) m l p r n =
-      told budget k m (closed k (state (close ∷ k) m l p r n) .marks) (closed k (state (close ∷ k) m l p r n) .pile) r (n + 1)
+  told zero [] m l p g = idle refl refl
+  told zero (item ∷ k) m l p g = busy (λ d. d) item k refl
+  told (suc budget) [] m l p g = idle refl refl
+  told (suc budget) (statement s ∷ k) m l p g =
+      follow-told (run terms budget) (λ σ. told budget (σ .pending) (σ .memory) (σ .marks) (σ .pile) (σ .log)) (statement s) k m l p g
+      (begin terms s k (state (statement s ∷ k) m l p g)) (begin-unfinished s k (state (statement s ∷ k) m l p g))
+  told (suc budget) (close ∷ k) m l p g =
+      told budget k m (closed k (state (close ∷ k) m l p g) .marks) (closed k (state (close ∷ k) m l p g) .pile) (counted g)
 
   done-idle : (o : Outcome) → Told o → (o .ended ≡ Ended.Done) ↔ (o .state .pending ≡ [])
   done-idle o (idle d i) = (λ e. i, λ e. d)
@@ -237,7 +236,7 @@ module _ (terms : Terms) where
 
   pub run-done-idle : (budget : ℕ) (σ : State) → (run terms budget σ .ended ≡ Ended.Done) ↔ (run terms budget σ .state .pending ≡ [])
   run-done-idle budget σ =
-      done-idle (run terms budget σ) (told budget (σ .pending) (σ .memory) (σ .marks) (σ .pile) (σ .records) (σ .steps))
+      done-idle (run terms budget σ) (told budget (σ .pending) (σ .memory) (σ .marks) (σ .pile) (σ .log))
 
 -- ---- a run that is under way is never refused
 
@@ -264,7 +263,7 @@ module _ (terms : Terms) where
   run-verdict : (budget : ℕ) (σ : State) → Verdict (run terms budget σ .ended)
   unfolding run
   run-verdict zero σ = budget-verdict (σ .pending)
-  run-verdict (suc budget) σ = follow-verdict (run terms budget) (λ next. run-verdict budget next) σ (attempt terms (σ .pending) σ)
+  run-verdict (suc budget) σ = follow-verdict (run terms budget) (λ next. run-verdict budget next) σ (attempted terms σ)
 
   unrefused : (ended : Ended) → Verdict ended → (number row : ℕ) → saidOfRun ended ≡ refused number row → ⊥
   unrefused Ended.Done v number row e = let z : _≡_ {A = ℕ} 0 1 = cc in omega arith

@@ -2,11 +2,13 @@
 use Prim.Native.Nat.{ℕ, _/_}
 use mathlib.Core.List.{List, [], _∷_, _++_}
 use mathlib.Core.Bool.{false}
+use mathlib.Core.Path.{_≡_}
 use lib.ListN.{length, drop}
 use Rattle.rules.specs.declared.Judged.{Judged}
 use Rattle.rules.specs.declared.Ended.{Ended}
 use Rattle.rules.specs.declared.Answer.{Answer}
 use Rattle.rules.specs.declared.Checked.{Checked}
+use Rattle.rules.specs.declared.Advice.{Advice}
 use Rattle.rules.specs.Limits.{recordWords}
 use Rattle.rules.specs.Rows.{rowsOf}
 use Rattle.rules.specs.Trees.{recipe}
@@ -46,6 +48,10 @@ saidOfCheck (Checked.Refused number row) = refused number row
 unfoldable pub judgement : List ℕ → Said
 judgement words = saidOfJudge (judge words)
 
+-- What a call of the judge answers: the contract of the function, and what the promises speak of.
+abbrev pub JudgeAnswers : List ℕ → Judged → Type 0
+JudgeAnswers words judged = saidOfJudge judged ≡ judgement words
+
 -- A run's whole answer. "Memory, marks, steps and records are those reached; marks do not include what is still in the pile."
 pub record Whole : Type 0 where
   pub said : Said
@@ -57,16 +63,20 @@ pub record Whole : Type 0 where
 abbrev pub reached : Outcome → Whole
 reached o = record {
   said = saidOfRun (o .ended);
-  steps = o .state .steps;
-  records = o .state .records;
+  steps = o .state .log .steps;
+  records = o .state .log .records;
   memory = o .state .memory;
   marks = o .state .marks;
 }
 
+-- what a run from a state shows when it has ended
+abbrev pub final : Terms → ℕ → State → Whole
+final terms budget σ = reached (run terms budget σ)
+
 -- "A refused run answers its number and row instead of verdict and place, with 0 steps and 0 records, returns memory and
 -- marks as given and writes no trace word."
 unfoldable pub answered : Judged → Terms → ℕ → State → Whole
-answered Judged.Accepted terms budget σ = reached (run terms budget σ)
+answered Judged.Accepted terms budget σ = final terms budget σ
 answered (Judged.Refused number row) terms budget σ = record {
   said = refused number row;
   steps = 0;
@@ -79,14 +89,25 @@ answered (Judged.Refused number row) terms budget σ = record {
 unfoldable pub termsOf : ℕ → Terms
 termsOf traceWords = record { room = traceWords / recordWords }
 
--- The answer of a run, from the table's words, memory, marks, budget and the number of trace words that are lent.
-unfoldable pub answer : List ℕ → List ℕ → ℕ → ℕ → ℕ → Whole
-answer words memory marks budget traceWords =
-    answered
-    (orElse (judge words) (judgeTrace traceWords))
-    (termsOf traceWords)
-    budget
-    (start (recipe (rowsOf words)) memory marks)
+-- What a run is given: "table of words, start memory, mark set, step budget and trace room", the trace as it is lent.
+pub record Inputs : Type 0 where
+  pub words : List ℕ
+  pub memory : List ℕ
+  pub marks : ℕ
+  pub budget : ℕ
+  pub trace : List ℕ
+
+-- the state from which its recipe starts
+abbrev pub started : Inputs → State
+started i = start (recipe (rowsOf (i .words))) (i .memory) (i .marks)
+
+-- "The lowest number from 1 to 6 that applies anywhere"
+abbrev pub admitted : Inputs → Judged
+admitted i = orElse (judge (i .words)) (judgeTrace (length (i .trace)))
+
+-- The answer of a run.
+unfoldable pub answer : Inputs → Whole
+answer i = answered (admitted i) (termsOf (length (i .trace))) (i .budget) (started i)
 
 -- "A record is two trace words: channel, value."
 unfoldable pub traceWordsOf : List Record → List ℕ
@@ -111,6 +132,11 @@ toldOf a = record { said = saidOfRun (a .ended); steps = a .steps; records = a .
 unfoldable pub telling : Whole → Told
 telling w = record { said = w .said; steps = w .steps; records = length (w .records); memory = w .memory; marks = w .marks }
 
+-- What a call of the run answers, and what it leaves in the trace: the contract of the function, and what the promises speak of.
+pub record RunAnswers (i : Inputs) (a : Answer) (after : List ℕ) : Type 0 where
+  pub told : toldOf a ≡ telling (answer i)
+  pub trace-after : after ≡ traceAfter (answer i .records) (i .trace)
+
 -- The level check's whole answer: what it says, "and the final marks in either case".
 pub record Advised : Type 0 where
   pub said : Said
@@ -124,3 +150,11 @@ advised (Judged.Refused number row) marks w = record { said = refused number row
 -- "Start with a mark set and a settled context."
 unfoldable pub advice : List ℕ → ℕ → Advised
 advice words marks = advised (judge words) marks (walk (recipe (rowsOf words)) false marks)
+
+-- what the level check's answer says, in document 01's numbers and values
+abbrev pub advisedOf : Advice → Advised
+advisedOf a = record { said = saidOfCheck (a .checked); marks = a .marks }
+
+-- What a call of the level check answers: the contract of the function, and what the promises speak of.
+abbrev pub CheckAnswers : List ℕ → ℕ → Advice → Type 0
+CheckAnswers words marks a = advisedOf a ≡ advice words marks

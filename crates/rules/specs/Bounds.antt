@@ -6,7 +6,7 @@ use lib.ListN.{length}
 use Rattle.rules.specs.Limits.{width, mostRows, mostNesting}
 use Rattle.rules.specs.Trees.{Stmt, skip, assign, sequence, if, while, output, nesting}
 use Rattle.rules.specs.Values.{mayAssign}
-use Rattle.rules.specs.Running.{Item, statement, close, Record}
+use Rattle.rules.specs.Running.{Item, statement, close}
 
 -- how many items the run of a statement has pending at once, at most
 abbrev pub need : Stmt → ℕ
@@ -38,7 +38,7 @@ abbrev pub Small : List ℕ → Type 0
 Small [] = Unit {0}
 Small (set ∷ p) = (set < 2 ^ width) × Small p
 
-pub record Bounds (k : List Item) (m : List ℕ) (l : ℕ) (p : List ℕ) (r : List Record) : Type 0 where
+pub record Bounds (k : List Item) (l : ℕ) (p : List ℕ) : Type 0 where
   pub marks : l < 2 ^ width
   pub pile : length p ≤ closes k
   pub sets : Small p

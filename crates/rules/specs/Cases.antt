@@ -4,7 +4,7 @@ use mathlib.Core.List.{List, [], _∷_, _++_, map}
 use mathlib.Core.Path.{_≡_}
 use lib.ListN.{length, replicate}
 use Rattle.rules.specs.Limits.{width}
-use Rattle.rules.specs.Answers.{Said, Whole, answer, traceAfter, Advised, advice}
+use Rattle.rules.specs.Answers.{Said, Whole, Inputs, answer, traceAfter, Advised, advice}
 
 -- a row as it is written: k, p, q, r
 abbrev pub Quad : Type 0
@@ -36,8 +36,17 @@ pub record Case : Type 0 where
   pub given : Given
   pub expected : Result
 
+abbrev pub inputsOf : Given → Inputs
+inputsOf g = record {
+  words = wordsOf (g .table);
+  memory = memoryOf (g .memory);
+  marks = g .marks;
+  budget = g .budget;
+  trace = g .trace;
+}
+
 unfoldable pub answerTo : Given → Whole
-answerTo g = answer (wordsOf (g .table)) (memoryOf (g .memory)) (g .marks) (g .budget) (length (g .trace))
+answerTo g = answer (inputsOf g)
 
 unfoldable pub resultOf : Given → Result
 resultOf g = record {

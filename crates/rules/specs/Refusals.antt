@@ -93,7 +93,8 @@ judgements = atTheLimits ++ badTables
 
 -- K. "16,384 and 16,385 trace words, 6": skip with a budget of 1 and so many trace words
 unfoldable pub traced : ℕ → Said
-traced traceWords = answer (0 ∷ 0 ∷ 0 ∷ 0 ∷ []) (memoryOf []) 0 1 traceWords .said
+traced traceWords =
+    answer (record { words = 0 ∷ 0 ∷ 0 ∷ 0 ∷ []; memory = memoryOf []; marks = 0; budget = 1; trace = replicate traceWords 0 }) .said
 
 -- The claim: every table is judged as expected, and so is the trace.
 abbrev pub CaseK : Type 0

@@ -19,14 +19,32 @@ pub record Record : Type 0 where
   pub channel : ℕ
   pub value : ℕ
 
--- The pending items, next one first; memory, marks and pile, its top first; the records so far; the steps so far.
+-- What a run has to show so far: its records, and how many steps it took.
+pub record Log : Type 0 where
+  pub records : List Record
+  pub steps : ℕ
+
+-- The pending items, next one first; memory, marks and pile, its top first; what the run has to show so far.
 pub record State : Type 0 where
   pub pending : List Item
   pub memory : List ℕ
   pub marks : ℕ
   pub pile : List ℕ
-  pub records : List Record
-  pub steps : ℕ
+  pub log : Log
+
+-- a state by its parts
+abbrev pub state : List Item → List ℕ → ℕ → List ℕ → Log → State
+state pending memory marks pile log = record {
+  pending = pending;
+  memory = memory;
+  marks = marks;
+  pile = pile;
+  log = log;
+}
+
+-- nothing to show yet
+abbrev pub blank : Log
+blank = record { records = []; steps = 0 }
 
 -- What a run is given besides the state: the room for records.
 pub record Terms : Type 0 where
@@ -34,14 +52,7 @@ pub record Terms : Type 0 where
 
 -- "The monitor holds the marks and a pile of mark sets, empty at the start."
 unfoldable pub start : Stmt → List ℕ → ℕ → State
-start recipe memory marks = record {
-  pending = statement recipe ∷ [];
-  memory = memory;
-  marks = marks;
-  pile = [];
-  records = [];
-  steps = 0;
-}
+start recipe memory marks = state (statement recipe ∷ []) memory marks [] blank
 
 -- "The run's context is provisional when the pile is not empty."
 abbrev pub context : List ℕ → Bool
@@ -57,7 +68,12 @@ abbrev pub push : Bool → ℕ → List ℕ → List ℕ
 push true pushed pile = pushed ∷ pile
 push false pushed pile = pile
 
--- "Each line is one step": each of the following is one, and counts it.
+-- "Each line is one step": each of the following is one, and counts it, whether or not it writes a record.
+abbrev pub counted : Log → Log
+counted log = record { records = log .records; steps = log .steps + 1 }
+
+abbrev pub noted : Record → Log → Log
+noted entry log = record { records = log .records ++ (entry ∷ []); steps = log .steps + 1 }
 
 -- "skip: nothing changes."
 unfoldable pub skipped : List Item → State → State
@@ -66,8 +82,7 @@ skipped rest σ = record {
   memory = σ .memory;
   marks = σ .marks;
   pile = σ .pile;
-  records = σ .records;
-  steps = σ .steps + 1;
+  log = counted (σ .log);
 }
 
 -- "assign: the variable takes the value. It is marked if the expression or the context is provisional, and unmarked
@@ -78,8 +93,7 @@ assigned v e rest σ = record {
   memory = set (σ .memory) v (value (σ .memory) e);
   marks = put v (guarded e σ) (σ .marks);
   pile = σ .pile;
-  records = σ .records;
-  steps = σ .steps + 1;
+  log = counted (σ .log);
 }
 
 -- a test was looked at: these items come next, and this set is pushed if the test or the context is provisional
@@ -89,8 +103,7 @@ opened next test pushed σ = record {
   memory = σ .memory;
   marks = σ .marks;
   pile = push (guarded test σ) pushed (σ .pile);
-  records = σ .records;
-  steps = σ .steps + 1;
+  log = counted (σ .log);
 }
 
 -- "if: the taken branch comes next, then a close. If the test or context is provisional, push the set of all variables
@@ -120,8 +133,7 @@ closed rest σ = record {
   memory = σ .memory;
   marks = closedMarks (σ .pile) (σ .marks);
   pile = popped (σ .pile);
-  records = σ .records;
-  steps = σ .steps + 1;
+  log = counted (σ .log);
 }
 
 -- a record of the channel and the expression's value
@@ -131,8 +143,7 @@ recorded channel e rest σ = record {
   memory = σ .memory;
   marks = σ .marks;
   pile = σ .pile;
-  records = σ .records ++ (record { channel = channel; value = value (σ .memory) e } ∷ []);
-  steps = σ .steps + 1;
+  log = noted (record { channel = channel; value = value (σ .memory) e }) (σ .log);
 }
 
 -- What comes of going on with a state: nothing is pending; the output at this row is denied, or without room; or the
@@ -163,12 +174,16 @@ begin terms (sequence s t) rest σ = begin terms s (statement t ∷ rest) σ
 begin terms (if e s t) rest σ = taken (branched (holds (σ .memory) e) e s t rest σ)
 begin terms (while e s) rest σ = taken (turned (holds (σ .memory) e) e s rest σ)
 begin terms (output channel e row) rest σ =
-    outputAttempt (isDenied channel e σ) (ltb (length (σ .records)) (terms .room)) row (recorded channel e rest σ)
+    outputAttempt (isDenied channel e σ) (ltb (length (σ .log .records)) (terms .room)) row (recorded channel e rest σ)
 
 unfoldable pub attempt : Terms → List Item → State → Attempt
 attempt terms [] σ = finished
 attempt terms (statement s ∷ rest) σ = begin terms s rest σ
 attempt terms (close ∷ rest) σ = taken (closed rest σ)
+
+-- what comes of going on with a state
+abbrev pub attempted : Terms → State → Attempt
+attempted terms σ = attempt terms (σ .pending) σ
 
 -- How a run ended, and the state that it reached.
 pub record Outcome : Type 0 where
@@ -193,4 +208,4 @@ follow onward σ (taken next) = onward next
 -- "Before each step of an unfinished run: budget used up gives verdict 2; else .."
 unfoldable pub run : Terms → ℕ → State → Outcome
 run terms zero σ = outcome (atBudget (σ .pending)) σ
-run terms (suc budget) σ = follow (run terms budget) σ (attempt terms (σ .pending) σ)
+run terms (suc budget) σ = follow (run terms budget) σ (attempted terms σ)
