@@ -4,7 +4,7 @@ use native.Mathlib.Omega.{arith}
 use mathlib.Core.Bool.{Bool, true, false}
 use mathlib.Core.List.{List, [], _∷_}
 use mathlib.Core.Logic.{inl, inr}
-use mathlib.Core.Path.{_≡_, refl, sym, _∙_, subst}
+use mathlib.Core.Path.{_≡_, refl, sym, ap₂, _∙_, subst}
 use lib.Dec.{ltb}
 use lib.ListN.{length, getD, List·getD-eq-default}
 use borrow.Author.Tests.{ltb-true, ltb-false}
@@ -12,68 +12,65 @@ use Rattle.rules.specs.Limits.{width}
 use Rattle.rules.specs.Marks.{has}
 use Rattle.rules.specs.Rows.{rowsOf}
 use Rattle.rules.specs.Trees.{recipe}
-use Rattle.rules.specs.Running.{statement}
-use Rattle.rules.specs.Answers.{refused, verdict, Whole, answer, termsOf}
-use Rattle.rules.proofs.RunLaws.{state, final}
-use Rattle.rules.proofs.AnswerLaws.{Call, ran, away, call}
-use Rattle.safety.specs.Stations.{settledRecords, Begins}
-use Rattle.safety.specs.Demands.{TwoMemories, OneBeginsTheOther, BothDoneAreTheSame}
+use Rattle.rules.specs.Running.{statement, blank}
+use Rattle.rules.specs.Answers.{refused, verdict, Whole, Inputs, final, answer, termsOf}
+use Rattle.rules.proofs.AnswerLaws.{startOf, shownOf, Call, ran, away, call}
+use Rattle.safety.specs.Stations.{Begins}
+use Rattle.safety.specs.Demands.{TwoMemories, seen, OneBeginsTheOther, BothDoneAreTheSame}
 use Rattle.safety.proofs.TwoRuns.{Alike, alike}
 
 refused-not-done : {A : Type 0} (number row : ℕ) → refused number row ≡ verdict 0 0 → A
 refused-not-done number row e = let z : _≡_ {A = ℕ} 0 1 = cc in absurd (omega arith)
 
--- past the last variable both memories read 0
-everywhere : (words : List ℕ) (marks : ℕ) (m n : List ℕ) → TwoMemories words marks m n → (v : ℕ) → has marks v ≡ false → getD m v 0 ≡ getD n v 0
-everywhere words marks m n two v h = by (ltb v width) refl
-  where
-    first : length m ≡ width
-    first = two .whole-first
+module _ (i j : Inputs) (two : TwoMemories i j) where
+  -- past the last variable both memories read 0
+  everywhere : (v : ℕ) → has (i .marks) v ≡ false → getD (i .memory) v 0 ≡ getD (j .memory) v 0
+  everywhere v h = by (ltb v width) refl
+    where
+      first : length (i .memory) ≡ width
+      first = two .whole-first
 
-    second : length n ≡ width
-    second = two .whole-second
+      second : length (j .memory) ≡ width
+      second = two .whole-second
 
-    by : (b : Bool) → ltb v width ≡ b → getD m v 0 ≡ getD n v 0
-    by true i = two .agree v (ltb-true v width i) h
-    by false i =
-        let out : width ≤ v = ltb-false v width i in
-        List·getD-eq-default m 0 (omega (arith, first)) ∙ sym (List·getD-eq-default n 0 (omega (arith, second)))
+      by : (b : Bool) → ltb v width ≡ b → getD (i .memory) v 0 ≡ getD (j .memory) v 0
+      by true in-range = two .agree v (ltb-true v width in-range) h
+      by false past =
+          let out : width ≤ v = ltb-false v width past in
+          List·getD-eq-default (i .memory) 0 (omega (arith, first)) ∙ sym (List·getD-eq-default (j .memory) 0 (omega (arith, second)))
 
--- the two calls come to the same
-calls-alike :
-    (words : List ℕ) (marks : ℕ) (m n : List ℕ) → TwoMemories words marks m n → (budget budget′ traceWords traceWords′ : ℕ)
-    → Alike (answer words m marks budget traceWords) (answer words n marks budget′ traceWords′)
-calls-alike words marks m n two budget budget′ traceWords traceWords′ =
-    by (call words m marks budget traceWords) (call words n marks budget′ traceWords′)
-  where
-    nothing : (x : Whole) → Begins (settledRecords []) (settledRecords (x .records))
-    nothing x = (settledRecords (x .records), refl)
+  -- the second run, of the first one's recipe and marks
+  same-start :
+      final (termsOf (length (j .trace))) (j .budget) (startOf (i .words) (j .memory) (i .marks)) ≡ shownOf j
+  same-start =
+      ap₂ (λ (words : List ℕ) (marks : ℕ). final (termsOf (length (j .trace))) (j .budget) (startOf words (j .memory) marks))
+      (two .same-words) (two .same-marks)
 
-    by :
-        Call words m marks budget traceWords → Call words n marks budget′ traceWords′
-        → Alike (answer words m marks budget traceWords) (answer words n marks budget′ traceWords′)
-    by (ran e w) (ran e′ w′) =
-        subst (λ (x : Whole). Alike x (answer words n marks budget′ traceWords′)) (sym w)
-        (subst (Alike (final (termsOf traceWords) budget (state (statement (recipe (rowsOf words)) ∷ []) m marks [] [] 0))) (sym w′)
-        (alike (termsOf traceWords) (termsOf traceWords′) budget budget′ (statement (recipe (rowsOf words)) ∷ []) m marks [] 0 n [] 0
-        (record { long = two .whole-first ∙ sym (two .whole-second); same = everywhere words marks m n two; seen = refl })))
-    by (ran e w) (away number row w′) =
-        subst (Alike (answer words m marks budget traceWords)) (sym w′)
-        (record {
-          begins = inr (nothing (answer words m marks budget traceWords));
-          done = λ d d′. refused-not-done number row d′;
-        })
-    by (away number row w) c =
-        subst (λ (x : Whole). Alike x (answer words n marks budget′ traceWords′)) (sym w)
-        (record {
-          begins = inl (nothing (answer words n marks budget′ traceWords′));
-          done = λ d d′. refused-not-done number row d;
-        })
+  both-ran : Alike (shownOf i) (shownOf j)
+  both-ran =
+      subst (Alike (shownOf i)) same-start
+      (alike (termsOf (length (i .trace))) (termsOf (length (j .trace))) (i .budget) (j .budget) (statement (recipe (rowsOf (i .words))) ∷ [])
+      (i .memory) (i .marks) blank (j .memory) blank
+      (record { long = two .whole-first ∙ sym (two .whole-second); same = everywhere; seen = refl }))
+
+  -- the two calls come to the same
+  calls-alike : Alike (answer i) (answer j)
+  calls-alike = by (call i) (call j)
+    where
+      nothing : (x : Whole) → Begins [] (seen x)
+      nothing x = (seen x, refl)
+
+      by : Call i → Call j → Alike (answer i) (answer j)
+      by (ran e w) (ran e′ w′) = subst (λ (x : Whole). Alike x (answer j)) (sym w) (subst (Alike (shownOf i)) (sym w′) both-ran)
+      by (ran e w) (away number row w′) =
+          subst (Alike (answer i)) (sym w′)
+          (record { begins = inr (nothing (answer i)); done = λ d d′. refused-not-done number row d′ })
+      by (away number row w) c =
+          subst (λ (x : Whole). Alike x (answer j)) (sym w)
+          (record { begins = inl (nothing (answer j)); done = λ d d′. refused-not-done number row d })
 
 pub one-begins-the-other : OneBeginsTheOther
-one-begins-the-other words marks m n two budget budget′ traceWords traceWords′ =
-    calls-alike words marks m n two budget budget′ traceWords traceWords′ .begins
+one-begins-the-other i j two = calls-alike i j two .begins
 
 pub both-done-are-the-same : BothDoneAreTheSame
-both-done-are-the-same words marks m n two budget budget′ traceWords traceWords′ d d′ =
-    calls-alike words marks m n two budget budget′ traceWords traceWords′ .done d d′
+both-done-are-the-same i j two d d′ = calls-alike i j two .done d d′

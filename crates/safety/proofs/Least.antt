@@ -212,13 +212,15 @@ lowest-low row (next ∷ rows) other (inr (inl e)) = omega (arith, lowest-low (m
 lowest-low row (next ∷ rows) other (inr (inr a)) = lowest-low (min row next) rows other (inr a)
 
 pub lowest-is-named : LowestIsNamed
-lowest-is-named [] = (
-  (λ e. refl, λ e. refl),
-  λ row e. let z : _≡_ {A = ℕ} 0 1 = cc in absurd (omega arith),
-)
-lowest-is-named (row ∷ rows) = (
-  (λ e. let z : _≡_ {A = ℕ} 0 1 = cc in absurd (omega arith), λ e. let z : _≡_ {A = ℕ} 0 1 = cc in absurd (omega arith)),
-  λ named e.
+lowest-is-named [] = record {
+  passes = (λ e. refl, λ e. refl);
+  fails = λ row e. let z : _≡_ {A = ℕ} 0 1 = cc in absurd (omega arith);
+  unrefused = λ number row e. let z : _≡_ {A = ℕ} 0 1 = cc in omega arith;
+}
+lowest-is-named (row ∷ rows) = record {
+  passes = (λ e. let z : _≡_ {A = ℕ} 0 1 = cc in absurd (omega arith), λ e. let z : _≡_ {A = ℕ} 0 1 = cc in absurd (omega arith));
+  fails = λ named e.
       let same : lowestOf row rows ≡ named = cc in
-      (subst (λ (x : ℕ). Among x (row ∷ rows)) same (lowest-among row rows), λ other a. subst (λ (x : ℕ). x ≤ other) same (lowest-low row rows other a)),
-)
+      (subst (λ (x : ℕ). Among x (row ∷ rows)) same (lowest-among row rows), λ other a. subst (λ (x : ℕ). x ≤ other) same (lowest-low row rows other a));
+  unrefused = λ number row′ e. let z : _≡_ {A = ℕ} 0 1 = cc in omega arith;
+}

@@ -13,14 +13,14 @@ use borrow.Author.Tests.{eqb-true, eqb-false, ltb-true, ltb-false}
 use Rattle.rules.specs.Marks.{has, put, union, provisional}
 use Rattle.rules.specs.Trees.{Expr, Stmt, skip, assign, sequence, if, while, output}
 use Rattle.rules.specs.Values.{value, holds, level, mayAssign}
-use Rattle.rules.specs.Running.{Item, statement, close, Record, Terms, push}
-use Rattle.rules.specs.Answers.{verdict, Whole}
+use Rattle.rules.specs.Running.{Item, statement, close, Record, Log, state, Terms, push, counted}
+use Rattle.rules.specs.Answers.{verdict, Whole, final}
 use Rattle.rules.proofs.MarkLaws.{has-put-same, has-put-other, not-in-union}
 use Rattle.rules.proofs.AgreeLaws.{value-agree, holds-agree}
-use Rattle.rules.proofs.RunLaws.{state, final, run-done, run-spent, run-sequence, run-skip, run-assign, run-close-empty, run-then, run-else, run-turn, run-leave, run-denied, run-roomless, run-record}
+use Rattle.rules.proofs.RunLaws.{run-done, run-spent, run-sequence, run-skip, run-assign, run-close-empty, run-then, run-else, run-turn, run-leave, run-denied, run-roomless, run-record}
 use Rattle.rules.proofs.RunInvariants.{Keeps, run-keeps}
 use Rattle.safety.specs.Stations.{settledRecords, Begins}
-use Rattle.safety.specs.Demands.{SameToTheStations}
+use Rattle.safety.specs.Demands.{EitherBegins, SameToTheStations}
 use Rattle.safety.proofs.Region.{Passed, ends, through, not-done, settled-snoc, if-confined, while-confined}
 
 -- ---- what the stations read only grows
@@ -40,11 +40,11 @@ begins-more a b c (rest, e) = (rest ++ c, ap (λ (r : List Record). r ++ c) e �
 
 -- the settled records from which a state set out begin what the stations read in the end
 grows :
-    (terms : Terms) (b : ℕ) (k : List Item) (m : List ℕ) (l : ℕ) (p : List ℕ) (r : List Record) (n : ℕ)
-    → Begins (settledRecords r) (settledRecords (final terms b (state k m l p r n) .records))
-grows terms b k m l p r n = run-keeps (λ k′ m′ l′ p′ r′. Begins (settledRecords r) (settledRecords r′)) keeps terms b (state k m l p r n) ([], sym (append-nil (settledRecords r)))
+    (terms : Terms) (b : ℕ) (k : List Item) (m : List ℕ) (l : ℕ) (p : List ℕ) (g : Log)
+    → Begins (settledRecords (g .records)) (settledRecords (final terms b (state k m l p g) .records))
+grows terms b k m l p g = run-keeps (λ k′ m′ l′ p′ g′. Begins (settledRecords (g .records)) (settledRecords (g′ .records))) keeps terms b (state k m l p g) ([], sym (append-nil (settledRecords (g .records))))
   where
-    keeps : Keeps (λ k′ m′ l′ p′ r′. Begins (settledRecords r) (settledRecords r′))
+    keeps : Keeps (λ k′ m′ l′ p′ g′. Begins (settledRecords (g .records)) (settledRecords (g′ .records)))
     keeps = record {
       skip-kept = λ f. f;
       assign-kept = λ f. f;
@@ -55,9 +55,9 @@ grows terms b k m l p r n = run-keeps (λ k′ m′ l′ p′ r′. Begins (sett
       leave-kept = λ f. f;
       close-kept = λ f. f;
       close-empty-kept = λ f. f;
-      record-kept = λ {k} {m} {l} {p} {r = r′} {channel} {e} f.
-          subst (Begins (settledRecords r)) (sym (settled-append r′ (record { channel = channel; value = value m e } ∷ [])))
-          (begins-more (settledRecords r) (settledRecords r′) _ f);
+      record-kept = λ {k} {m} {l} {p} {g = g′} {channel} {e} f.
+          subst (Begins (settledRecords (g .records))) (sym (settled-append (g′ .records) (record { channel = channel; value = value m e } ∷ [])))
+          (begins-more (settledRecords (g .records)) (settledRecords (g′ .records)) _ f);
     }
 
 -- ---- the relation between two states with the same pending items and marks, and piles that are empty
@@ -69,8 +69,7 @@ pub record Related (l : ℕ) (m : List ℕ) (r : List Record) (m′ : List ℕ) 
 
 -- what two runs come to: one's settled records begin the other's, and if both are done the stations see the same
 pub record Alike (w w′ : Whole) : Type 0 where
-  pub begins :
-      Begins (settledRecords (w .records)) (settledRecords (w′ .records)) ⊎ Begins (settledRecords (w′ .records)) (settledRecords (w .records))
+  pub begins : EitherBegins w w′
   pub done : w .said ≡ verdict 0 0 → w′ .said ≡ verdict 0 0 → SameToTheStations w w′
 
 -- the first run ended without showing more than it set out with, and the second goes on from there; and the other way round
@@ -129,12 +128,12 @@ related-assign v e l m r m′ r′ related = record {
     by :
         (b : Bool) → provisional (level l e) ≡ b → (w : ℕ) → has (put v (b || false) l) w ≡ false
         → getD (set m v (value m e)) w 0 ≡ getD (set m′ v (value m′ e)) w 0
-    by true g w h =
+    by true known w h =
         let differs : w ≢ v = λ e′. true≢false (sym (has-put-same v true l) ∙ ap (has (put v true l)) (sym e′) ∙ h) in
         getD-set-other m v w (value m e) 0 differs ∙ unmarked true w differs h ∙ sym (getD-set-other m′ v w (value m′ e) 0 differs)
-    by false g w h =
+    by false known w h =
         stored-agree v (value m e) m m′ (related .long) w (λ differs. unmarked false w differs h)
-        ∙ ap (λ (x : ℕ). getD (set m′ v x) w 0) (value-agree l m m′ (related .same) e g)
+        ∙ ap (λ (x : ℕ). getD (set m′ v x) w 0) (value-agree l m m′ (related .same) e known)
 
 -- an output that is not denied
 related-record :
@@ -169,8 +168,8 @@ module _ (terms terms′ : Terms) where
   -- The two runs with these budgets and these items pending come to the same.
   abbrev Runs : ℕ → ℕ → List Item → Type 0
   Runs b b′ k =
-      (m : List ℕ) (l : ℕ) (r : List Record) (n : ℕ) (m′ : List ℕ) (r′ : List Record) (n′ : ℕ) → Related l m r m′ r′
-      → Alike (final terms b (state k m l [] r n)) (final terms′ b′ (state k m′ l [] r′ n′))
+      (m : List ℕ) (l : ℕ) (g : Log) (m′ : List ℕ) (g′ : Log) → Related l m (g .records) m′ (g′ .records)
+      → Alike (final terms b (state k m l [] g)) (final terms′ b′ (state k m′ l [] g′))
 
   -- with budgets of at most f in all, whatever is pending
   abbrev Within : ℕ → Type 0
@@ -182,22 +181,22 @@ module _ (terms terms′ : Terms) where
   moved w₁ w w₁′ w′ e e′ x = subst (λ (y : Whole). Alike y w₁′) (sym e) (subst (λ (y : Whole). Alike w y) (sym e′) x)
 
   first-spent : (b′ : ℕ) (item : Item) (k : List Item) → Runs 0 b′ (item ∷ k)
-  first-spent b′ item k m l r n m′ r′ n′ related =
-      let w = run-spent terms k m l [] r n item in
-      first-ended _ _ r r′ (λ d. not-done 2 0 (omega arith) (sym (ap (λ (x : Whole). x .said) w) ∙ d))
-      (ap (λ (x : Whole). settledRecords (x .records)) w) (related .seen) (grows terms′ b′ (item ∷ k) m′ l [] r′ n′)
+  first-spent b′ item k m l g m′ g′ related =
+      let w = run-spent terms k m l [] g item in
+      first-ended _ _ (g .records) (g′ .records) (λ d. not-done 2 0 (omega arith) (sym (ap (λ (x : Whole). x .said) w) ∙ d))
+      (ap (λ (x : Whole). settledRecords (x .records)) w) (related .seen) (grows terms′ b′ (item ∷ k) m′ l [] g′)
 
   second-spent : (b : ℕ) (item : Item) (k : List Item) → Runs b 0 (item ∷ k)
-  second-spent b item k m l r n m′ r′ n′ related =
-      let w = run-spent terms′ k m′ l [] r′ n′ item in
-      second-ended _ _ r r′ (λ d. not-done 2 0 (omega arith) (sym (ap (λ (x : Whole). x .said) w) ∙ d))
-      (ap (λ (x : Whole). settledRecords (x .records)) w) (related .seen) (grows terms b (item ∷ k) m l [] r n)
+  second-spent b item k m l g m′ g′ related =
+      let w = run-spent terms′ k m′ l [] g′ item in
+      second-ended _ _ (g .records) (g′ .records) (λ d. not-done 2 0 (omega arith) (sym (ap (λ (x : Whole). x .said) w) ∙ d))
+      (ap (λ (x : Whole). settledRecords (x .records)) w) (related .seen) (grows terms b (item ∷ k) m l [] g)
 
   both-done : (b b′ : ℕ) → Runs b b′ []
-  both-done b b′ m l r n m′ r′ n′ related =
-      moved _ _ _ _ (run-done terms [] m l [] r n b) (run-done terms′ [] m′ l [] r′ n′ b′)
+  both-done b b′ m l g m′ g′ related =
+      moved _ _ _ _ (run-done terms [] m l [] g b) (run-done terms′ [] m′ l [] g′ b′)
       (record {
-        begins = inl ([], sym (related .seen) ∙ nil (settledRecords r));
+        begins = inl ([], sym (related .seen) ∙ nil (settledRecords (g .records)));
         done = λ d d′. record { records = related .seen; marks = refl; memory = related .same };
       })
     where
@@ -212,143 +211,143 @@ module _ (terms terms′ : Terms) where
       → Passed terms a k m l [] r b w → Passed terms′ a k m′ l [] r′ b′ w′ → Alike w w′
   regions f b b′ a few onward k m l r m′ r′ w w′ related more more′ (ends stopped shown) x′ =
       first-ended w w′ r r′ stopped shown (related .seen) more′
-  regions f b b′ a few onward k m l r m′ r′ w w′ related more more′ (through b₁ m₁ r₁ n₁ h eq s e) (ends stopped shown) =
+  regions f b b′ a few onward k m l r m′ r′ w w′ related more more′ (through b₁ m₁ g₁ h eq s e) (ends stopped shown) =
       second-ended w w′ r r′ stopped shown (related .seen) more
-  regions f b b′ a few onward k m l r m′ r′ w w′ related more more′ (through b₁ m₁ r₁ n₁ h eq s e) (through b₁′ m₁′ r₁′ n₁′ h′ eq′ s′ e′) =
+  regions f b b′ a few onward k m l r m′ r′ w w′ related more more′ (through b₁ m₁ g₁ h eq s e) (through b₁′ m₁′ g₁′ h′ eq′ s′ e′) =
       moved w _ w′ _ eq eq′
-      (onward b₁ b₁′ (omega arith) k m₁ (union l a) r₁ n₁ m₁′ r₁′ n₁′
+      (onward b₁ b₁′ (omega arith) k m₁ (union l a) g₁ m₁′ g₁′
       (record {
         long = sym (s .long) ∙ related .long ∙ s′ .long;
-        same = λ v g.
-            let apart = not-in-union l a v g in
+        same = λ v unmarked.
+            let apart = not-in-union l a v unmarked in
             sym (s .outside v (apart .1)) ∙ related .same v (apart .0) ∙ s′ .outside v (apart .1);
         seen = e ∙ related .seen ∙ sym e′;
       }))
 
   -- a settled test pushes nothing on an empty pile
   unpushed : (l : ℕ) (e : Expr) (c : ℕ) → provisional (level l e) ≡ false → push (provisional (level l e) || false) c [] ≡ []
-  unpushed l e c g = ap (λ (x : Bool). push (x || false) c []) g
+  unpushed l e c known = ap (λ (x : Bool). push (x || false) c []) known
 
   module _ (f b b′ : ℕ) (few : b + b′ ≤ f) (onward : Within f) (k : List Item) where
     both-if : (e : Expr) (s t : Stmt) → Runs (suc b) (suc b′) (statement (if e s t) ∷ k)
-    both-if e s t m l r n m′ r′ n′ related = by (provisional (level l e)) refl
+    both-if e s t m l g m′ g′ related = by (provisional (level l e)) refl
       where
         opened : (s′ : Stmt) (c : ℕ) → provisional (level l e) ≡ false
             → Alike
-            (final terms b (state (statement s′ ∷ close ∷ k) m l (push (provisional (level l e) || false) c []) r (n + 1)))
-            (final terms′ b′ (state (statement s′ ∷ close ∷ k) m′ l (push (provisional (level l e) || false) c []) r′ (n′ + 1)))
-        opened s′ c g =
-            subst (λ (p : List ℕ). Alike (final terms b (state (statement s′ ∷ close ∷ k) m l p r (n + 1))) (final terms′ b′ (state (statement s′ ∷ close ∷ k) m′ l p r′ (n′ + 1))))
-            (sym (unpushed l e c g)) (onward b b′ few (statement s′ ∷ close ∷ k) m l r (n + 1) m′ r′ (n′ + 1) related)
+            (final terms b (state (statement s′ ∷ close ∷ k) m l (push (provisional (level l e) || false) c []) (counted g)))
+            (final terms′ b′ (state (statement s′ ∷ close ∷ k) m′ l (push (provisional (level l e) || false) c []) (counted g′)))
+        opened s′ c known =
+            subst (λ (p : List ℕ). Alike (final terms b (state (statement s′ ∷ close ∷ k) m l p (counted g))) (final terms′ b′ (state (statement s′ ∷ close ∷ k) m′ l p (counted g′))))
+            (sym (unpushed l e c known)) (onward b b′ few (statement s′ ∷ close ∷ k) m l (counted g) m′ (counted g′) related)
 
         settled : (x : Bool) → provisional (level l e) ≡ false → holds m e ≡ x
-            → Alike (final terms (suc b) (state (statement (if e s t) ∷ k) m l [] r n)) (final terms′ (suc b′) (state (statement (if e s t) ∷ k) m′ l [] r′ n′))
-        settled true g h =
-            moved _ _ _ _ (run-then terms k m l [] r n b e s t h)
-            (run-then terms′ k m′ l [] r′ n′ b′ e s t (sym (holds-agree l m m′ (related .same) e g) ∙ h)) (opened s (mayAssign t) g)
-        settled false g h =
-            moved _ _ _ _ (run-else terms k m l [] r n b e s t h)
-            (run-else terms′ k m′ l [] r′ n′ b′ e s t (sym (holds-agree l m m′ (related .same) e g) ∙ h)) (opened t (mayAssign s) g)
+            → Alike (final terms (suc b) (state (statement (if e s t) ∷ k) m l [] g)) (final terms′ (suc b′) (state (statement (if e s t) ∷ k) m′ l [] g′))
+        settled true known h =
+            moved _ _ _ _ (run-then terms k m l [] g b e s t h)
+            (run-then terms′ k m′ l [] g′ b′ e s t (sym (holds-agree l m m′ (related .same) e known) ∙ h)) (opened s (mayAssign t) known)
+        settled false known h =
+            moved _ _ _ _ (run-else terms k m l [] g b e s t h)
+            (run-else terms′ k m′ l [] g′ b′ e s t (sym (holds-agree l m m′ (related .same) e known) ∙ h)) (opened t (mayAssign s) known)
 
         by : (x : Bool) → provisional (level l e) ≡ x
-            → Alike (final terms (suc b) (state (statement (if e s t) ∷ k) m l [] r n)) (final terms′ (suc b′) (state (statement (if e s t) ∷ k) m′ l [] r′ n′))
-        by true g =
-            regions f b b′ (union (mayAssign s) (mayAssign t)) few onward k m l r m′ r′ _ _ related
-            (grows terms (suc b) (statement (if e s t) ∷ k) m l [] r n) (grows terms′ (suc b′) (statement (if e s t) ∷ k) m′ l [] r′ n′)
-            (if-confined terms e s t b k m l r n g) (if-confined terms′ e s t b′ k m′ l r′ n′ g)
-        by false g = settled (holds m e) g refl
+            → Alike (final terms (suc b) (state (statement (if e s t) ∷ k) m l [] g)) (final terms′ (suc b′) (state (statement (if e s t) ∷ k) m′ l [] g′))
+        by true known =
+            regions f b b′ (union (mayAssign s) (mayAssign t)) few onward k m l (g .records) m′ (g′ .records) _ _ related
+            (grows terms (suc b) (statement (if e s t) ∷ k) m l [] g) (grows terms′ (suc b′) (statement (if e s t) ∷ k) m′ l [] g′)
+            (if-confined terms e s t b k m l g known) (if-confined terms′ e s t b′ k m′ l g′ known)
+        by false known = settled (holds m e) known refl
 
     both-while : (e : Expr) (s : Stmt) → Runs (suc b) (suc b′) (statement (while e s) ∷ k)
-    both-while e s m l r n m′ r′ n′ related = by (provisional (level l e)) refl
+    both-while e s m l g m′ g′ related = by (provisional (level l e)) refl
       where
         opened : (k′ : List Item) (c : ℕ) → provisional (level l e) ≡ false
             → Alike
-            (final terms b (state k′ m l (push (provisional (level l e) || false) c []) r (n + 1)))
-            (final terms′ b′ (state k′ m′ l (push (provisional (level l e) || false) c []) r′ (n′ + 1)))
-        opened k′ c g =
-            subst (λ (p : List ℕ). Alike (final terms b (state k′ m l p r (n + 1))) (final terms′ b′ (state k′ m′ l p r′ (n′ + 1))))
-            (sym (unpushed l e c g)) (onward b b′ few k′ m l r (n + 1) m′ r′ (n′ + 1) related)
+            (final terms b (state k′ m l (push (provisional (level l e) || false) c []) (counted g)))
+            (final terms′ b′ (state k′ m′ l (push (provisional (level l e) || false) c []) (counted g′)))
+        opened k′ c known =
+            subst (λ (p : List ℕ). Alike (final terms b (state k′ m l p (counted g))) (final terms′ b′ (state k′ m′ l p (counted g′))))
+            (sym (unpushed l e c known)) (onward b b′ few k′ m l (counted g) m′ (counted g′) related)
 
         settled : (x : Bool) → provisional (level l e) ≡ false → holds m e ≡ x
-            → Alike (final terms (suc b) (state (statement (while e s) ∷ k) m l [] r n)) (final terms′ (suc b′) (state (statement (while e s) ∷ k) m′ l [] r′ n′))
-        settled true g h =
-            moved _ _ _ _ (run-turn terms k m l [] r n b e s h)
-            (run-turn terms′ k m′ l [] r′ n′ b′ e s (sym (holds-agree l m m′ (related .same) e g) ∙ h))
-            (opened (statement s ∷ close ∷ statement (while e s) ∷ k) _ g)
-        settled false g h =
-            moved _ _ _ _ (run-leave terms k m l [] r n b e s h)
-            (run-leave terms′ k m′ l [] r′ n′ b′ e s (sym (holds-agree l m m′ (related .same) e g) ∙ h)) (opened (close ∷ k) _ g)
+            → Alike (final terms (suc b) (state (statement (while e s) ∷ k) m l [] g)) (final terms′ (suc b′) (state (statement (while e s) ∷ k) m′ l [] g′))
+        settled true known h =
+            moved _ _ _ _ (run-turn terms k m l [] g b e s h)
+            (run-turn terms′ k m′ l [] g′ b′ e s (sym (holds-agree l m m′ (related .same) e known) ∙ h))
+            (opened (statement s ∷ close ∷ statement (while e s) ∷ k) _ known)
+        settled false known h =
+            moved _ _ _ _ (run-leave terms k m l [] g b e s h)
+            (run-leave terms′ k m′ l [] g′ b′ e s (sym (holds-agree l m m′ (related .same) e known) ∙ h)) (opened (close ∷ k) _ known)
 
         by : (x : Bool) → provisional (level l e) ≡ x
-            → Alike (final terms (suc b) (state (statement (while e s) ∷ k) m l [] r n)) (final terms′ (suc b′) (state (statement (while e s) ∷ k) m′ l [] r′ n′))
-        by true g =
-            regions f b b′ (mayAssign s) few onward k m l r m′ r′ _ _ related
-            (grows terms (suc b) (statement (while e s) ∷ k) m l [] r n) (grows terms′ (suc b′) (statement (while e s) ∷ k) m′ l [] r′ n′)
-            (while-confined terms e s b k m l r n g) (while-confined terms′ e s b′ k m′ l r′ n′ g)
-        by false g = settled (holds m e) g refl
+            → Alike (final terms (suc b) (state (statement (while e s) ∷ k) m l [] g)) (final terms′ (suc b′) (state (statement (while e s) ∷ k) m′ l [] g′))
+        by true known =
+            regions f b b′ (mayAssign s) few onward k m l (g .records) m′ (g′ .records) _ _ related
+            (grows terms (suc b) (statement (while e s) ∷ k) m l [] g) (grows terms′ (suc b′) (statement (while e s) ∷ k) m′ l [] g′)
+            (while-confined terms e s b k m l g known) (while-confined terms′ e s b′ k m′ l g′ known)
+        by false known = settled (holds m e) known refl
 
     both-output : (channel : ℕ) (e : Expr) (row : ℕ) → Runs (suc b) (suc b′) (statement (output channel e row) ∷ k)
-    both-output channel e row m l r n m′ r′ n′ related = by (eqb channel 0 && (provisional (level l e) || false)) refl
+    both-output channel e row m l g m′ g′ related = by (eqb channel 0 && (provisional (level l e) || false)) refl
       where
         item : Item
         item = statement (output channel e row)
 
-        more : Begins (settledRecords r) (settledRecords (final terms (suc b) (state (item ∷ k) m l [] r n) .records))
-        more = grows terms (suc b) (item ∷ k) m l [] r n
+        more : Begins (settledRecords (g .records)) (settledRecords (final terms (suc b) (state (item ∷ k) m l [] g) .records))
+        more = grows terms (suc b) (item ∷ k) m l [] g
 
-        more′ : Begins (settledRecords r′) (settledRecords (final terms′ (suc b′) (state (item ∷ k) m′ l [] r′ n′) .records))
-        more′ = grows terms′ (suc b′) (item ∷ k) m′ l [] r′ n′
+        more′ : Begins (settledRecords (g′ .records)) (settledRecords (final terms′ (suc b′) (state (item ∷ k) m′ l [] g′) .records))
+        more′ = grows terms′ (suc b′) (item ∷ k) m′ l [] g′
 
         room′ :
-            (x : Bool) → (eqb channel 0 && (provisional (level l e) || false)) ≡ false → ltb (length r) (terms .room) ≡ true → ltb (length r′) (terms′ .room) ≡ x
-            → Alike (final terms (suc b) (state (item ∷ k) m l [] r n)) (final terms′ (suc b′) (state (item ∷ k) m′ l [] r′ n′))
+            (x : Bool) → (eqb channel 0 && (provisional (level l e) || false)) ≡ false → ltb (length (g .records)) (terms .room) ≡ true → ltb (length (g′ .records)) (terms′ .room) ≡ x
+            → Alike (final terms (suc b) (state (item ∷ k) m l [] g)) (final terms′ (suc b′) (state (item ∷ k) m′ l [] g′))
         room′ true passes h h′ =
-            moved _ _ _ _ (run-record terms k m l [] r n b channel e row passes h) (run-record terms′ k m′ l [] r′ n′ b′ channel e row passes h′)
-            (onward b b′ few k m l _ (n + 1) m′ _ (n′ + 1) (related-record channel e l m r m′ r′ passes related))
+            moved _ _ _ _ (run-record terms k m l [] g b channel e row passes h) (run-record terms′ k m′ l [] g′ b′ channel e row passes h′)
+            (onward b b′ few k m l _ m′ _ (related-record channel e l m (g .records) m′ (g′ .records) passes related))
         room′ false passes h h′ =
-            let w = run-roomless terms′ k m′ l [] r′ n′ b′ channel e row passes h′ in
-            second-ended _ _ r r′ (λ d. not-done 3 row (omega arith) (sym (ap (λ (x : Whole). x .said) w) ∙ d))
+            let w = run-roomless terms′ k m′ l [] g′ b′ channel e row passes h′ in
+            second-ended _ _ (g .records) (g′ .records) (λ d. not-done 3 row (omega arith) (sym (ap (λ (x : Whole). x .said) w) ∙ d))
             (ap (λ (x : Whole). settledRecords (x .records)) w) (related .seen) more
 
         room :
-            (x : Bool) → (eqb channel 0 && (provisional (level l e) || false)) ≡ false → ltb (length r) (terms .room) ≡ x
-            → Alike (final terms (suc b) (state (item ∷ k) m l [] r n)) (final terms′ (suc b′) (state (item ∷ k) m′ l [] r′ n′))
-        room true passes h = room′ (ltb (length r′) (terms′ .room)) passes h refl
+            (x : Bool) → (eqb channel 0 && (provisional (level l e) || false)) ≡ false → ltb (length (g .records)) (terms .room) ≡ x
+            → Alike (final terms (suc b) (state (item ∷ k) m l [] g)) (final terms′ (suc b′) (state (item ∷ k) m′ l [] g′))
+        room true passes h = room′ (ltb (length (g′ .records)) (terms′ .room)) passes h refl
         room false passes h =
-            let w = run-roomless terms k m l [] r n b channel e row passes h in
-            first-ended _ _ r r′ (λ d. not-done 3 row (omega arith) (sym (ap (λ (x : Whole). x .said) w) ∙ d))
+            let w = run-roomless terms k m l [] g b channel e row passes h in
+            first-ended _ _ (g .records) (g′ .records) (λ d. not-done 3 row (omega arith) (sym (ap (λ (x : Whole). x .said) w) ∙ d))
             (ap (λ (x : Whole). settledRecords (x .records)) w) (related .seen) more′
 
         by :
             (x : Bool) → (eqb channel 0 && (provisional (level l e) || false)) ≡ x
-            → Alike (final terms (suc b) (state (item ∷ k) m l [] r n)) (final terms′ (suc b′) (state (item ∷ k) m′ l [] r′ n′))
+            → Alike (final terms (suc b) (state (item ∷ k) m l [] g)) (final terms′ (suc b′) (state (item ∷ k) m′ l [] g′))
         by true denies =
-            let w = run-denied terms k m l [] r n b channel e row denies in
-            first-ended _ _ r r′ (λ d. not-done 1 row (omega arith) (sym (ap (λ (x : Whole). x .said) w) ∙ d))
+            let w = run-denied terms k m l [] g b channel e row denies in
+            first-ended _ _ (g .records) (g′ .records) (λ d. not-done 1 row (omega arith) (sym (ap (λ (x : Whole). x .said) w) ∙ d))
             (ap (λ (x : Whole). settledRecords (x .records)) w) (related .seen) more′
-        by false passes = room (ltb (length r) (terms .room)) passes refl
+        by false passes = room (ltb (length (g .records)) (terms .room)) passes refl
 
   both-statement : (s : Stmt) (f b b′ : ℕ) → b + b′ ≤ f → Within f → (k : List Item) → Runs (suc b) (suc b′) (statement s ∷ k)
-  both-statement skip f b b′ few onward k m l r n m′ r′ n′ related =
-      moved _ _ _ _ (run-skip terms k m l [] r n b) (run-skip terms′ k m′ l [] r′ n′ b′)
-      (onward b b′ few k m l r (n + 1) m′ r′ (n′ + 1) related)
-  both-statement (assign v e) f b b′ few onward k m l r n m′ r′ n′ related =
-      moved _ _ _ _ (run-assign terms k m l [] r n b v e) (run-assign terms′ k m′ l [] r′ n′ b′ v e)
-      (onward b b′ few k _ _ r (n + 1) _ r′ (n′ + 1) (related-assign v e l m r m′ r′ related))
-  both-statement (sequence s t) f b b′ few onward k m l r n m′ r′ n′ related =
-      moved _ _ _ _ (run-sequence terms k m l [] r n (suc b) s t) (run-sequence terms′ k m′ l [] r′ n′ (suc b′) s t)
-      (both-statement s f b b′ few onward (statement t ∷ k) m l r n m′ r′ n′ related)
-  both-statement (if e s t) f b b′ few onward k m l r n m′ r′ n′ related =
-      both-if f b b′ few onward k e s t m l r n m′ r′ n′ related
-  both-statement (while e s) f b b′ few onward k m l r n m′ r′ n′ related =
-      both-while f b b′ few onward k e s m l r n m′ r′ n′ related
-  both-statement (output channel e row) f b b′ few onward k m l r n m′ r′ n′ related =
-      both-output f b b′ few onward k channel e row m l r n m′ r′ n′ related
+  both-statement skip f b b′ few onward k m l g m′ g′ related =
+      moved _ _ _ _ (run-skip terms k m l [] g b) (run-skip terms′ k m′ l [] g′ b′)
+      (onward b b′ few k m l (counted g) m′ (counted g′) related)
+  both-statement (assign v e) f b b′ few onward k m l g m′ g′ related =
+      moved _ _ _ _ (run-assign terms k m l [] g b v e) (run-assign terms′ k m′ l [] g′ b′ v e)
+      (onward b b′ few k _ _ (counted g) _ (counted g′) (related-assign v e l m (g .records) m′ (g′ .records) related))
+  both-statement (sequence s t) f b b′ few onward k m l g m′ g′ related =
+      moved _ _ _ _ (run-sequence terms k m l [] g (suc b) s t) (run-sequence terms′ k m′ l [] g′ (suc b′) s t)
+      (both-statement s f b b′ few onward (statement t ∷ k) m l g m′ g′ related)
+  both-statement (if e s t) f b b′ few onward k m l g m′ g′ related =
+      both-if f b b′ few onward k e s t m l g m′ g′ related
+  both-statement (while e s) f b b′ few onward k m l g m′ g′ related =
+      both-while f b b′ few onward k e s m l g m′ g′ related
+  both-statement (output channel e row) f b b′ few onward k m l g m′ g′ related =
+      both-output f b b′ few onward k channel e row m l g m′ g′ related
 
   both-close : (f b b′ : ℕ) → b + b′ ≤ f → Within f → (k : List Item) → Runs (suc b) (suc b′) (close ∷ k)
-  both-close f b b′ few onward k m l r n m′ r′ n′ related =
-      moved _ _ _ _ (run-close-empty terms k m l [] r n b) (run-close-empty terms′ k m′ l [] r′ n′ b′)
-      (onward b b′ few k m l r (n + 1) m′ r′ (n′ + 1) related)
+  both-close f b b′ few onward k m l g m′ g′ related =
+      moved _ _ _ _ (run-close-empty terms k m l [] g b) (run-close-empty terms′ k m′ l [] g′ b′)
+      (onward b b′ few k m l (counted g) m′ (counted g′) related)
 
   -- nothing pending, or no budget for one of the two
   idle : (b b′ : ℕ) (k : List Item) → (b ≡ 0) ⊎ (b′ ≡ 0) → Runs b b′ k

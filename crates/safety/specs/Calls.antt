@@ -1,25 +1,26 @@
--- The demands for whoever calls the run: over the answers and traces that its contract allows.
-use Prim.Native.Nat.{ℕ, zero, suc, _≤_}
-use mathlib.Core.Bool.{true, false}
+-- The demands for whoever calls the judge, the run or the level check: over the answers and traces that their contracts allow.
+-- Each hypothesis about a call is the contract of the function itself.
+use Prim.Native.Nat.{ℕ, zero, suc, _≤_, _<_}
+use mathlib.Core.Bool.{false}
 use mathlib.Core.List.{List, [], _∷_}
-use mathlib.Core.Logic.{_⊎_}
+use mathlib.Core.Logic.{_↔_}
 use mathlib.Core.Path.{_≡_}
-use lib.ListN.{length, getD}
+use lib.ListN.{length}
+use Rattle.rules.specs.declared.Judged.{Judged}
 use Rattle.rules.specs.declared.Answer.{Answer}
 use Rattle.rules.specs.declared.Ended.{Ended}
+use Rattle.rules.specs.declared.Checked.{Checked}
+use Rattle.rules.specs.declared.Advice.{Advice}
+use Rattle.rules.specs.Limits.{mostTraceWords}
 use Rattle.rules.specs.Rows.{rowsOf}
 use Rattle.rules.specs.Trees.{recipe}
-use Rattle.rules.specs.Marks.{has}
+use Rattle.rules.specs.Judging.{judge}
 use Rattle.rules.specs.Running.{Record}
-use Rattle.rules.specs.Unwatched.{plainStart, plainRun}
-use Rattle.rules.specs.Answers.{pass, answer, traceAfter, toldOf, telling, advice}
-use Rattle.safety.specs.Stations.{settledRecords, Begins}
-use Rattle.safety.specs.Demands.{TwoMemories}
+use Rattle.rules.specs.LevelRules.{Choice, result, failing}
+use Rattle.rules.specs.Answers.{saidOfRun, Whole, Inputs, answer, JudgeAnswers, RunAnswers, CheckAnswers}
+use Rattle.safety.specs.Demands.{Least, Names, SameRun, unwatched, TwoMemories, EitherBegins, SameToTheStations}
 
--- A call of the run: the answer and the trace afterwards are what the run's contract says.
-pub record Called (words memory : List ℕ) (marks budget : ℕ) (trace : List ℕ) (a : Answer) (after : List ℕ) : Type 0 where
-  pub told : toldOf a ≡ telling (answer words memory marks budget (length trace))
-  pub trace-after : after ≡ traceAfter (answer words memory marks budget (length trace) .records) trace
+-- ---- what a caller reads off
 
 -- the first n records of a trace
 unfoldable pub recordsIn : List ℕ → ℕ → List Record
@@ -28,39 +29,89 @@ recordsIn [] (suc n) = []
 recordsIn (c ∷ []) (suc n) = []
 recordsIn (c ∷ v ∷ trace) (suc n) = record { channel = c; value = v } ∷ recordsIn trace n
 
--- what the stations read of a call
-abbrev pub read : Answer → List ℕ → List Record
-read a after = settledRecords (recordsIn after (a .records))
+-- an answer and the trace afterwards, as a whole answer
+abbrev pub wholeOf : Answer → List ℕ → Whole
+wholeOf a after = record {
+  said = saidOfRun (a .ended);
+  steps = a .steps;
+  records = recordsIn after (a .records);
+  memory = a .memory .words;
+  marks = a .marks;
+}
 
--- Demand 1: a call ends within its budget; a refused one leaves memory, marks and trace as they were.
+-- What is read off a call of the run is the rules' answer, whole; and a call of the judge answers as the rules judge.
+abbrev pub CallIsTheAnswer : Type 0
+CallIsTheAnswer = (i : Inputs) (a : Answer) (after : List ℕ) → RunAnswers i a after → wholeOf a after ≡ answer i
+
+abbrev pub CallJudges : Type 0
+CallJudges = (words : List ℕ) (judged : Judged) → JudgeAnswers words judged → judged ≡ judge words
+
+-- ---- Demand 1
+
+-- a call that was refused: no step, no record, and everything as it was lent
+pub record Returned (i : Inputs) (a : Answer) (after : List ℕ) : Type 0 where
+  pub no-step : a .steps ≡ 0
+  pub no-record : a .records ≡ 0
+  pub memory-kept : a .memory .words ≡ i .memory
+  pub marks-kept : a .marks ≡ i .marks
+  pub trace-kept : after ≡ i .trace
+
+-- A call ends within its budget; a refused one leaves memory, marks and trace as they were.
 abbrev pub CallEnds : Type 0
 CallEnds =
-    (words memory : List ℕ) (marks budget : ℕ) (trace : List ℕ) (a : Answer) (after : List ℕ) → Called words memory marks budget trace a after
-    → (a .steps ≤ budget)
-    × ((number row : ℕ) → a .ended ≡ Ended.Refused number row → (a .steps ≡ 0) × (a .records ≡ 0) × (a .memory .words ≡ memory) × (a .marks ≡ marks) × (after ≡ trace))
+    (i : Inputs) (a : Answer) (after : List ℕ) → RunAnswers i a after
+    → (a .steps ≤ i .budget) × ((number row : ℕ) → a .ended ≡ Ended.Refused number row → Returned i a after)
 
--- Demand 2: a call that ends done has the records, memory and steps of the unwatched language.
+-- "The lowest number from 1 to 6 that applies anywhere is given, with its lowest row": a call of the run is refused where a call
+-- of the judge refuses its table, with the same number and row; else where the trace is oversized; and nowhere else.
+pub record RefusedAsJudged (i : Inputs) (judged : Judged) (a : Answer) : Type 0 where
+  pub bad-table : (number row : ℕ) → judged ≡ Judged.Refused number row → a .ended ≡ Ended.Refused number row
+  pub oversized : judged ≡ Judged.Accepted → mostTraceWords < length (i .trace) → a .ended ≡ Ended.Refused 6 0
+  pub admitted :
+      judged ≡ Judged.Accepted → length (i .trace) ≤ mostTraceWords → (number row : ℕ) → a .ended ≡ Ended.Refused number row → ⊥
+
+abbrev pub CallIsRefusedAsJudged : Type 0
+CallIsRefusedAsJudged =
+    (i : Inputs) (judged : Judged) (a : Answer) (after : List ℕ) → JudgeAnswers (i .words) judged → RunAnswers i a after
+    → RefusedAsJudged i judged a
+
+-- ---- Demand 2
+
+-- A call of the level check on a table that a call of the judge accepts gives the least solution of the rules: its final marks,
+-- and pass, or fail with the lowest of its failing rows.
+abbrev pub CheckIsLeast : Type 0
+CheckIsLeast =
+    (words : List ℕ) (marks : ℕ) (check : Advice) → JudgeAnswers words Judged.Accepted → CheckAnswers words marks check
+    → (choice : Choice (recipe (rowsOf words)))
+    × Least (recipe (rowsOf words)) marks choice
+    × (check .marks ≡ result (recipe (rowsOf words)) choice false marks)
+    × Names (check .checked) (failing (recipe (rowsOf words)) choice false marks)
+
+-- "The level check can meet 1 to 5; it then returns its marks as given": it is refused exactly where a call of the judge is,
+-- with the same number and row.
+abbrev pub CheckIsRefusedAsJudged : Type 0
+CheckIsRefusedAsJudged =
+    (words : List ℕ) (marks : ℕ) (judged : Judged) (check : Advice) → JudgeAnswers words judged → CheckAnswers words marks check
+    → (number row : ℕ)
+    → ((check .checked ≡ Checked.Refused number row) ↔ (judged ≡ Judged.Refused number row))
+    × (check .checked ≡ Checked.Refused number row → check .marks ≡ marks)
+
+-- A call that ends done has the records, memory and steps of the unwatched language.
 abbrev pub CallIsUnwatched : Type 0
 CallIsUnwatched =
-    (words memory : List ℕ) (marks budget : ℕ) (trace : List ℕ) (a : Answer) (after : List ℕ) → Called words memory marks budget trace a after
-    → a .ended ≡ Ended.Done
-    → (plainRun budget (plainStart (recipe (rowsOf words)) memory) .finished ≡ true)
-    × (a .memory .words ≡ plainRun budget (plainStart (recipe (rowsOf words)) memory) .state .memory)
-    × (recordsIn after (a .records) ≡ plainRun budget (plainStart (recipe (rowsOf words)) memory) .state .records)
-    × (a .steps ≡ plainRun budget (plainStart (recipe (rowsOf words)) memory) .state .steps)
+    (i : Inputs) (a : Answer) (after : List ℕ) → RunAnswers i a after → a .ended ≡ Ended.Done → SameRun (wholeOf a after) (unwatched i)
 
--- Demand 3: what the stations read of one call begins what they read of the other; both done means the same in everything
--- settled; and a recipe that the level check passes is never stopped.
+-- ---- Demand 3
+
+-- What the stations read of one call begins what they read of the other; both done means the same in everything settled.
 abbrev pub CallsShowTheSame : Type 0
 CallsShowTheSame =
-    (words : List ℕ) (marks : ℕ) (m n : List ℕ) → TwoMemories words marks m n → (budget budget′ : ℕ) (trace trace′ : List ℕ) (a a′ : Answer) (after after′ : List ℕ)
-    → Called words m marks budget trace a after → Called words n marks budget′ trace′ a′ after′
-    → (Begins (read a after) (read a′ after′) ⊎ Begins (read a′ after′) (read a after))
-    × (a .ended ≡ Ended.Done → a′ .ended ≡ Ended.Done
-    → (read a after ≡ read a′ after′) × (a .marks ≡ a′ .marks)
-    × ((v : ℕ) → has (a .marks) v ≡ false → getD (a .memory .words) v 0 ≡ getD (a′ .memory .words) v 0))
+    (i j : Inputs) → TwoMemories i j → (a b : Answer) (after after′ : List ℕ) → RunAnswers i a after → RunAnswers j b after′
+    → EitherBegins (wholeOf a after) (wholeOf b after′)
+    × (a .ended ≡ Ended.Done → b .ended ≡ Ended.Done → SameToTheStations (wholeOf a after) (wholeOf b after′))
 
+-- A call of the run is never stopped where a call of the level check, with the same table and mark set, answered pass.
 abbrev pub CallIsNeverStopped : Type 0
 CallIsNeverStopped =
-    (words memory : List ℕ) (marks budget : ℕ) (trace : List ℕ) (a : Answer) (after : List ℕ) (row : ℕ) → advice words marks .said ≡ pass
-    → Called words memory marks budget trace a after → a .ended ≡ Ended.Stopped row → ⊥
+    (i : Inputs) (check : Advice) (a : Answer) (after : List ℕ) (row : ℕ) → CheckAnswers (i .words) (i .marks) check
+    → check .checked ≡ Checked.Pass → RunAnswers i a after → a .ended ≡ Ended.Stopped row → ⊥

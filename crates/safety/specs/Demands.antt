@@ -1,5 +1,5 @@
 -- The demands, each under its sentence of the request. What is proved of each stands in proofs/, under the same name.
-use Prim.Native.Nat.{ℕ, _*_, _^_, _≤_, _<_}
+use Prim.Native.Nat.{ℕ, _^_, _≤_, _<_}
 use mathlib.Core.Bool.{true, false}
 use mathlib.Core.List.{List, []}
 use mathlib.Core.Logic.{_⊎_, _↔_}
@@ -14,11 +14,11 @@ use Rattle.rules.specs.Rows.{rowsOf}
 use Rattle.rules.specs.Trees.{Stmt, recipe}
 use Rattle.rules.specs.Judging.{judge}
 use Rattle.rules.specs.Marks.{has, _⊆_}
-use Rattle.rules.specs.Running.{State, Terms, start, run}
+use Rattle.rules.specs.Running.{Record, State, Terms, run}
 use Rattle.rules.specs.Unwatched.{PlainOutcome, plainStart, plainRun}
 use Rattle.rules.specs.LevelRules.{Choice, Solves, Within, result, failing}
 use Rattle.rules.specs.LevelCheck.{checkedOf}
-use Rattle.rules.specs.Answers.{refused, verdict, pass, Whole, answer, traceAfter, saidOfCheck, advice}
+use Rattle.rules.specs.Answers.{refused, verdict, pass, Whole, Inputs, started, answer, traceAfter, saidOfCheck, advice}
 use Rattle.safety.specs.Stations.{settledRecords, Begins, Agree, Among}
 
 -- ---- Demand 1
@@ -26,22 +26,18 @@ use Rattle.safety.specs.Stations.{settledRecords, Begins, Agree, Among}
 -- "Every table of words, start memory, mark set, step budget and trace room gets one answer": the answer is a function of
 -- them. ".. and a run ends within its budget."
 abbrev pub EndsWithinBudget : Type 0
-EndsWithinBudget =
-    (words memory : List ℕ) (marks budget traceWords : ℕ) → answer words memory marks budget traceWords .steps ≤ budget
+EndsWithinBudget = (i : Inputs) → answer i .steps ≤ i .budget
 
 -- "A bad table or an oversized trace is refused by number; memory, marks and trace then stand as they were lent."
-pub record Untouched (a : Whole) (memory : List ℕ) (marks : ℕ) (trace : List ℕ) : Type 0 where
+pub record Untouched (i : Inputs) (a : Whole) : Type 0 where
   pub no-step : a .steps ≡ 0
   pub no-record : a .records ≡ []
-  pub memory-kept : a .memory ≡ memory
-  pub marks-kept : a .marks ≡ marks
-  pub trace-kept : traceAfter (a .records) trace ≡ trace
+  pub memory-kept : a .memory ≡ i .memory
+  pub marks-kept : a .marks ≡ i .marks
+  pub trace-kept : traceAfter (a .records) (i .trace) ≡ i .trace
 
 abbrev pub RefusalsTouchNothing : Type 0
-RefusalsTouchNothing =
-    (words memory : List ℕ) (marks budget : ℕ) (trace : List ℕ) (number row : ℕ)
-    → answer words memory marks budget (length trace) .said ≡ refused number row
-    → Untouched (answer words memory marks budget (length trace)) memory marks trace
+RefusalsTouchNothing = (i : Inputs) (number row : ℕ) → answer i .said ≡ refused number row → Untouched i (answer i)
 
 -- "A finished run is verdict 0, also when its last step used the budget": done exactly when nothing is pending.
 abbrev pub DoneWhenNothingIsPending : Type 0
@@ -65,12 +61,14 @@ LevelCheckIsLeast =
     × (advice words marks .marks ≡ result (recipe (rowsOf words)) choice false marks)
     × (advice words marks .said ≡ saidOfCheck (checkedOf (failing (recipe (rowsOf words)) choice false marks)))
 
--- "pass, or fail with the lowest failing row"
+-- "pass, or fail with the lowest failing row", where these are the failing rows; and nothing else
+pub record Names (checked : Checked) (rows : List ℕ) : Type 0 where
+  pub passes : (checked ≡ Checked.Pass) ↔ (rows ≡ [])
+  pub fails : (row : ℕ) → checked ≡ Checked.Fail row → Among row rows × ((other : ℕ) → Among other rows → row ≤ other)
+  pub unrefused : (number row : ℕ) → checked ≡ Checked.Refused number row → ⊥
+
 abbrev pub LowestIsNamed : Type 0
-LowestIsNamed =
-    (rows : List ℕ)
-    → ((checkedOf rows ≡ Checked.Pass) ↔ (rows ≡ []))
-    × ((row : ℕ) → checkedOf rows ≡ Checked.Fail row → Among row rows × ((other : ℕ) → Among other rows → row ≤ other))
+LowestIsNamed = (rows : List ℕ) → Names (checkedOf rows) rows
 
 -- "A run that ends done has the records and memory of the unwatched language", and its steps.
 pub record SameRun (a : Whole) (plain : PlainOutcome) : Type 0 where
@@ -79,49 +77,51 @@ pub record SameRun (a : Whole) (plain : PlainOutcome) : Type 0 where
   pub records : a .records ≡ plain .state .records
   pub steps : a .steps ≡ plain .state .steps
 
+-- the same recipe in the unwatched language, from the same memory and within the same budget
+abbrev pub unwatched : Inputs → PlainOutcome
+unwatched i = plainRun (i .budget) (plainStart (recipe (rowsOf (i .words))) (i .memory))
+
 abbrev pub DoneIsUnwatched : Type 0
-DoneIsUnwatched =
-    (words memory : List ℕ) (marks budget traceWords : ℕ) → answer words memory marks budget traceWords .said ≡ verdict 0 0
-    → SameRun (answer words memory marks budget traceWords) (plainRun budget (plainStart (recipe (rowsOf words)) memory))
+DoneIsUnwatched = (i : Inputs) → answer i .said ≡ verdict 0 0 → SameRun (answer i) (unwatched i)
 
 -- ---- Demand 3
 
--- "Take one accepted recipe, one mark set and two memories equal in every settled variable."
-pub record TwoMemories (words : List ℕ) (marks : ℕ) (m n : List ℕ) : Type 0 where
-  pub accepted : judge words ≡ Judged.Accepted
-  pub whole-first : length m ≡ width
-  pub whole-second : length n ≡ width
-  pub agree : Agree marks m n
+-- "Take one accepted recipe, one mark set and two memories equal in every settled variable." Budget and trace are each run's own.
+pub record TwoMemories (i j : Inputs) : Type 0 where
+  pub same-words : i .words ≡ j .words
+  pub accepted : judge (i .words) ≡ Judged.Accepted
+  pub same-marks : i .marks ≡ j .marks
+  pub whole-first : length (i .memory) ≡ width
+  pub whole-second : length (j .memory) ≡ width
+  pub agree : Agree (i .marks) (i .memory) (j .memory)
+
+-- what the stations read of an answer
+abbrev pub seen : Whole → List Record
+seen a = settledRecords (a .records)
 
 -- "With any budgets and rooms, one run's settled records begin the other's."
+abbrev pub EitherBegins : Whole → Whole → Type 0
+EitherBegins a b = Begins (seen a) (seen b) ⊎ Begins (seen b) (seen a)
+
 abbrev pub OneBeginsTheOther : Type 0
-OneBeginsTheOther =
-    (words : List ℕ) (marks : ℕ) (m n : List ℕ) → TwoMemories words marks m n → (budget budget′ traceWords traceWords′ : ℕ)
-    → Begins
-    (settledRecords (answer words m marks budget traceWords .records))
-    (settledRecords (answer words n marks budget′ traceWords′ .records))
-    ⊎ Begins
-    (settledRecords (answer words n marks budget′ traceWords′ .records))
-    (settledRecords (answer words m marks budget traceWords .records))
+OneBeginsTheOther = (i j : Inputs) → TwoMemories i j → EitherBegins (answer i) (answer j)
 
 -- "If both end done, those records are equal, so are the final marks, and every variable left settled holds one value in
 -- both."
 pub record SameToTheStations (a b : Whole) : Type 0 where
-  pub records : settledRecords (a .records) ≡ settledRecords (b .records)
+  pub records : seen a ≡ seen b
   pub marks : a .marks ≡ b .marks
   pub memory : (v : ℕ) → has (a .marks) v ≡ false → getD (a .memory) v 0 ≡ getD (b .memory) v 0
 
 abbrev pub BothDoneAreTheSame : Type 0
 BothDoneAreTheSame =
-    (words : List ℕ) (marks : ℕ) (m n : List ℕ) → TwoMemories words marks m n → (budget budget′ traceWords traceWords′ : ℕ)
-    → answer words m marks budget traceWords .said ≡ verdict 0 0 → answer words n marks budget′ traceWords′ .said ≡ verdict 0 0
-    → SameToTheStations (answer words m marks budget traceWords) (answer words n marks budget′ traceWords′)
+    (i j : Inputs) → TwoMemories i j → answer i .said ≡ verdict 0 0 → answer j .said ≡ verdict 0 0
+    → SameToTheStations (answer i) (answer j)
 
 -- "A recipe passed by the level check for that mark set is never stopped."
 abbrev pub PassedIsNeverStopped : Type 0
 PassedIsNeverStopped =
-    (words memory : List ℕ) (marks budget traceWords row : ℕ) → advice words marks .said ≡ pass
-    → answer words memory marks budget traceWords .said ≡ verdict 1 row → ⊥
+    (i : Inputs) (row : ℕ) → advice (i .words) (i .marks) .said ≡ pass → answer i .said ≡ verdict 1 row → ⊥
 
 -- ---- What the code's arrays need: facts of every state that a run of an accepted table reaches.
 pub record Bounded (σ : State) : Type 0 where
@@ -132,5 +132,5 @@ pub record Bounded (σ : State) : Type 0 where
 
 abbrev pub RunsStayBounded : Type 0
 RunsStayBounded =
-    (words memory : List ℕ) (marks budget : ℕ) (terms : Terms) → judge words ≡ Judged.Accepted → marks < 2 ^ width
-    → Bounded (run terms budget (start (recipe (rowsOf words)) memory marks) .state)
+    (i : Inputs) (terms : Terms) → judge (i .words) ≡ Judged.Accepted → i .marks < 2 ^ width
+    → Bounded (run terms (i .budget) (started i) .state)
