@@ -7,82 +7,98 @@ use mathlib.Core.Path.{_≡_, refl, sym, ap, _∙_, subst}
 use lib.ListN.{length, getD}
 use Rattle.rules.specs.declared.Row.{Row}
 use Rattle.rules.specs.declared.Ended.{Ended}
-use Rattle.rules.specs.Running.{Item, outcome}
-use Rattle.rules.specs.Answers.{Whole, reached, termsOf}
-use Rattle.rules.proofs.RunLaws.{state, final, run-done, run-spent}
+use Rattle.rules.specs.Running.{Item, State, Terms, Attempt, denied, roomless, taken, attempted, outcome, run}
+use Rattle.rules.specs.Answers.{termsOf}
+use Rattle.rules.proofs.RunLaws.{run-idle, run-out, run-taken, run-stopped, run-full}
 use Rattle.step.specs.declared.Held.{Held}
-use Rattle.step.specs.Denoted.{itemOf, itemsOf, setsOf, recordsOf, stateOf, Holds}
-use Rattle.step.specs.Turns.{Kept, Goes, Ends}
+use Rattle.step.specs.Denoted.{itemOf, itemsOf, Arrays, arrays, stateOf, Holds}
+use Rattle.step.specs.Turns.{Kept, Goes, Stays}
 use Rattle.step.proofs.ArrayLaws.{items-none, items-pop, kept-same, kept-then}
 use Rattle.monitor.specs.declared.Reached.{Reached}
-use Rattle.monitor.specs.Going.{shown, Went, UnderWay}
+use Rattle.monitor.specs.Going.{leftIn, Went, UnderWay}
 
-module _ (rows : List Row) (w₀ e₀ p₀ t₀ : List ℕ) (h₀ : Held) (budget : ℕ) where
-  pub starts : Holds rows w₀ e₀ p₀ t₀ h₀ → UnderWay rows w₀ e₀ p₀ t₀ h₀ budget w₀ e₀ p₀ t₀ h₀ 0
+module _ (rows : List Row) (a₀ : Arrays) (h₀ : Held) (budget : ℕ) where
+  abbrev T : Terms
+  T = termsOf (length (a₀ .trace))
+
+  pub starts : Holds rows a₀ h₀ → UnderWay rows a₀ h₀ budget a₀ h₀ 0
   starts holds = record {
-    run = ap (λ (b : ℕ). final (termsOf (length t₀)) b (stateOf rows w₀ e₀ p₀ t₀ h₀ 0)) (let g : budget ≡ budget - 0 = omega arith in g);
+    ran = ap (λ (b : ℕ). run T b (stateOf rows a₀ h₀ 0)) (let g : budget ≡ budget - 0 = omega arith in g);
     holds = holds;
-    kept = kept-same t₀ (h₀ .records);
+    kept = kept-same (a₀ .trace) (h₀ .records);
     within = omega arith;
   }
 
-  module _ (w e p t : List ℕ) (h : Held) (steps : ℕ) (way : UnderWay rows w₀ e₀ p₀ t₀ h₀ budget w e p t h steps) where
-    -- the run ends here, like this
-    ends-here :
-        (ended : Ended) (w′ t′ : List ℕ) (r : Reached) → r ≡ record { ended = ended; steps = steps; records = h .records; marks = h .marks } → w′ ≡ w → t′ ≡ t
-        → final (termsOf (length t₀)) (budget - steps) (stateOf rows w e p t h steps) ≡ reached (outcome ended (stateOf rows w e p t h steps))
-        → Went rows w₀ e₀ p₀ t₀ h₀ budget w′ t′ r
-    ends-here ended w′ t′ r er ew et run =
-        subst (λ (y : List ℕ). Went rows w₀ e₀ p₀ t₀ h₀ budget y t′ r) (sym ew)
-        (subst (λ (y : List ℕ). Went rows w₀ e₀ p₀ t₀ h₀ budget w y r) (sym et)
-        (subst (Went rows w₀ e₀ p₀ t₀ h₀ budget w t) (sym er)
-        (record { run = way .run ∙ run; kept = way .kept; written = way .holds .written })))
-
+  module _ (a : Arrays) (h : Held) (steps : ℕ) (way : UnderWay rows a₀ h₀ budget a h steps) where
     pub done-here :
-        h .pending ≡ 0 → (r : Reached) → r ≡ record { ended = Ended.Done; steps = steps; records = h .records; marks = h .marks }
-        → Went rows w₀ e₀ p₀ t₀ h₀ budget w t r
-    done-here idle r er =
-        let nothing : itemsOf rows e (h .pending) ≡ [] = ap (itemsOf rows e) idle ∙ items-none rows e in
-        ends-here Ended.Done w t r er refl refl
-        (ap (λ (k : List Item). final (termsOf (length t₀)) (budget - steps) (state k w (h .marks) (setsOf p (h .pile)) (recordsOf t (h .records)) steps)) nothing
-        ∙ run-done (termsOf (length t₀)) [] w (h .marks) (setsOf p (h .pile)) (recordsOf t (h .records)) steps (budget - steps))
+        h .pending ≡ 0
+        → Went rows a₀ h₀ budget (a .entries) (a .pile) (a .trace) (record { ended = Ended.Done; steps = steps; held = h; memory = record { words = a .words } })
+    done-here idle = record {
+      ran = way .ran ∙ run-idle T (budget - steps) (stateOf rows a h steps) (ap (itemsOf rows (a .entries)) idle ∙ items-none rows (a .entries));
+      holds = way .holds;
+      kept = way .kept;
+    }
 
     pub spent-here :
-        h .pending ≢ 0 → steps ≡ budget → (r : Reached) → r ≡ record { ended = Ended.Spent; steps = steps; records = h .records; marks = h .marks }
-        → Went rows w₀ e₀ p₀ t₀ h₀ budget w t r
-    spent-here busy used r er =
+        h .pending ≢ 0 → steps ≡ budget
+        → Went rows a₀ h₀ budget (a .entries) (a .pile) (a .trace) (record { ended = Ended.Spent; steps = steps; held = h; memory = record { words = a .words } })
+    spent-here busy used =
         let n : ℕ = h .pending - 1 in
         let back : h .pending ≡ n + 1 = omega arith in
-        let items : itemsOf rows e (h .pending) ≡ itemOf rows (getD e n 0) ∷ itemsOf rows e n = ap (itemsOf rows e) back ∙ items-pop rows e n in
         let none-left : budget - steps ≡ 0 = omega arith in
-        ends-here Ended.Spent w t r er refl refl
-        (ap (λ (b : ℕ). final (termsOf (length t₀)) b (stateOf rows w e p t h steps)) none-left
-        ∙ ap (λ (k : List Item). final (termsOf (length t₀)) 0 (state k w (h .marks) (setsOf p (h .pile)) (recordsOf t (h .records)) steps)) items
-        ∙ run-spent (termsOf (length t₀)) (itemsOf rows e n) w (h .marks) (setsOf p (h .pile)) (recordsOf t (h .records)) steps (itemOf rows (getD e n 0)))
+        record {
+          ran =
+              way .ran ∙ ap (λ (b : ℕ). run T b (stateOf rows a h steps)) none-left
+              ∙ run-out T (stateOf rows a h steps) (itemOf rows (getD (a .entries) n 0)) (itemsOf rows (a .entries) n)
+              (ap (itemsOf rows (a .entries)) back ∙ items-pop rows (a .entries) n);
+          holds = way .holds;
+          kept = way .kept;
+        }
 
+    -- there is budget for a step
     left : steps ≢ budget → budget - steps ≡ suc (budget - (steps + 1))
     left other = omega (arith, way .within)
 
-    pub ended-here :
-        steps ≢ budget → (w′ t′ : List ℕ) (ended : Ended) → Ends rows w e p t h w′ t′ ended → (r : Reached)
-        → r ≡ record { ended = ended; steps = steps; records = h .records; marks = h .marks } → Went rows w₀ e₀ p₀ t₀ h₀ budget w′ t′ r
-    ended-here other w′ t′ ended x r er =
-        ends-here ended w′ t′ r er (x .words) (x .trace)
-        (ap (λ (b : ℕ). final (termsOf (length t₀)) b (stateOf rows w e p t h steps)) (left other)
-        ∙ subst
-        (λ (n : ℕ). final (termsOf n) (suc (budget - (steps + 1))) (stateOf rows w e p t h steps) ≡ reached (outcome ended (stateOf rows w e p t h steps)))
-        (way .kept .long) (x .step (budget - (steps + 1)) steps))
+    -- a step is attempted with the room of the first trace, which is as long as this one
+    same-room : (σ : State) (said : Attempt) → attempted (termsOf (length (a .trace))) σ ≡ said → attempted T σ ≡ said
+    same-room σ said e = subst (λ (n : ℕ). attempted (termsOf n) σ ≡ said) (way .kept .long) e
 
-    pub goes-on :
-        steps ≢ budget → (w′ e′ p′ t′ : List ℕ) (h′ : Held) → Goes rows w e p t h w′ e′ p′ t′ h′
-        → UnderWay rows w₀ e₀ p₀ t₀ h₀ budget w′ e′ p′ t′ h′ (steps + 1)
-    goes-on other w′ e′ p′ t′ h′ x = record {
-      run =
-          way .run ∙ ap (λ (b : ℕ). final (termsOf (length t₀)) b (stateOf rows w e p t h steps)) (left other)
-          ∙ subst
-          (λ (n : ℕ). final (termsOf n) (suc (budget - (steps + 1))) (stateOf rows w e p t h steps) ≡ final (termsOf n) (budget - (steps + 1)) (stateOf rows w′ e′ p′ t′ h′ (steps + 1)))
-          (way .kept .long) (x .step (budget - (steps + 1)) steps);
+    one-more : steps ≢ budget → run T budget (stateOf rows a₀ h₀ 0) ≡ run T (suc (budget - (steps + 1))) (stateOf rows a h steps)
+    one-more other = way .ran ∙ ap (λ (b : ℕ). run T b (stateOf rows a h steps)) (left other)
+
+    -- the step is not taken: the run ends in the state before, which the arrays hold
+    ends-here :
+        (ended : Ended) (said : Attempt) (a′ : Arrays) → Stays rows a h a′ said
+        → run T budget (stateOf rows a₀ h₀ 0) ≡ outcome ended (stateOf rows a h steps)
+        → Went rows a₀ h₀ budget (a′ .entries) (a′ .pile) (a′ .trace) (record { ended = ended; steps = steps; held = h; memory = record { words = a′ .words } })
+    ends-here ended said a′ x ran = record {
+      ran = ran ∙ ap (outcome ended) (sym (x .same steps));
       holds = x .holds;
-      kept = kept-then t₀ t t′ (h .records) (h′ .records) (x .more) (way .kept) (x .kept);
+      kept = subst (λ (t : List ℕ). Kept (a₀ .trace) t (h .records)) (sym (x .trace)) (way .kept);
+    }
+
+    pub stopped-here :
+        steps ≢ budget → (row : ℕ) (a′ : Arrays) → Stays rows a h a′ (denied row)
+        → Went rows a₀ h₀ budget (a′ .entries) (a′ .pile) (a′ .trace)
+        (record { ended = Ended.Stopped row; steps = steps; held = h; memory = record { words = a′ .words } })
+    stopped-here other row a′ x =
+        ends-here (Ended.Stopped row) (denied row) a′ x
+        (one-more other ∙ run-stopped T (budget - (steps + 1)) (stateOf rows a h steps) row (same-room _ _ (x .step steps)))
+
+    pub full-here :
+        steps ≢ budget → (row : ℕ) (a′ : Arrays) → Stays rows a h a′ (roomless row)
+        → Went rows a₀ h₀ budget (a′ .entries) (a′ .pile) (a′ .trace)
+        (record { ended = Ended.NoRoom row; steps = steps; held = h; memory = record { words = a′ .words } })
+    full-here other row a′ x =
+        ends-here (Ended.NoRoom row) (roomless row) a′ x
+        (one-more other ∙ run-full T (budget - (steps + 1)) (stateOf rows a h steps) row (same-room _ _ (x .step steps)))
+
+    pub goes-on : steps ≢ budget → (a′ : Arrays) (h′ : Held) → Goes rows a h a′ h′ → UnderWay rows a₀ h₀ budget a′ h′ (steps + 1)
+    goes-on other a′ h′ x = record {
+      ran =
+          one-more other
+          ∙ run-taken T (budget - (steps + 1)) (stateOf rows a h steps) (stateOf rows a′ h′ (steps + 1)) (same-room _ _ (x .step steps));
+      holds = x .holds;
+      kept = kept-then (a₀ .trace) (a .trace) (a′ .trace) (h .records) (h′ .records) (x .more) (way .kept) (x .kept);
       within = omega (arith, way .within);
     }

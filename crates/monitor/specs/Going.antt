@@ -1,36 +1,43 @@
 -- What going on with a run from the arrays' state comes to.
-use Prim.Native.Nat.{ℕ, _-_, _*_, _≤_}
+use Prim.Native.Nat.{ℕ, _-_, _≤_}
 use mathlib.Core.List.{List}
 use mathlib.Core.Path.{_≡_}
 use lib.ListN.{length}
+use Rattle.rules.specs.declared.Memory.{Memory}
 use Rattle.rules.specs.declared.Row.{Row}
-use Rattle.rules.specs.Answers.{Whole, saidOfRun, termsOf}
-use Rattle.rules.proofs.RunLaws.{final}
+use Rattle.rules.specs.Running.{outcome, run}
+use Rattle.rules.specs.Answers.{Inputs, termsOf}
 use Rattle.step.specs.declared.Held.{Held}
-use Rattle.step.specs.Denoted.{recordsOf, stateOf, Holds}
+use Rattle.step.specs.Denoted.{Arrays, arrays, stateOf, Holds}
 use Rattle.step.specs.Turns.{Kept}
 use Rattle.monitor.specs.declared.Reached.{Reached}
 
--- what the arrays and this end show
-abbrev pub shown : List ℕ → List ℕ → Reached → Whole
-shown words trace r = record {
-  said = saidOfRun (r .ended);
-  steps = r .steps;
-  records = recordsOf trace (r .records);
-  memory = words;
-  marks = r .marks;
+-- what a call of the run is given
+abbrev pub lent : List ℕ → Memory → ℕ → ℕ → List ℕ → Inputs
+lent table memory marks budget trace = record {
+  words = table;
+  memory = memory .words;
+  marks = marks;
+  budget = budget;
+  trace = trace;
 }
 
--- The run with this budget ends as the arrays show afterwards, and the rest of the trace is as it was.
-pub record Went (rows : List Row) (w e p t : List ℕ) (h : Held) (budget : ℕ) (w′ t′ : List ℕ) (r : Reached) : Type 0 where
-  pub run : final (termsOf (length t)) budget (stateOf rows w e p t h 0) ≡ shown w′ t′ r
-  pub kept : Kept t t′ (r .records)
-  pub written : r .records * 2 ≤ length t′
+-- the arrays afterwards
+abbrev pub leftIn : Reached → List ℕ → List ℕ → List ℕ → Arrays
+leftIn r entries pile trace = arrays (r .memory .words) entries pile trace
+
+-- The run with this budget ends as is answered, in the state that the arrays hold afterwards; the rest of the trace is as it was.
+pub record Went (rows : List Row) (a : Arrays) (h : Held) (budget : ℕ) (e′ p′ t′ : List ℕ) (r : Reached) : Type 0 where
+  pub ran :
+      run (termsOf (length (a .trace))) budget (stateOf rows a h 0) ≡ outcome (r .ended) (stateOf rows (leftIn r e′ p′ t′) (r .held) (r .steps))
+  pub holds : Holds rows (leftIn r e′ p′ t′) (r .held)
+  pub kept : Kept (a .trace) t′ (r .held .records)
 
 -- Under way: what the run comes to is what it comes to from the arrays' state now, with the budget that is left.
-pub record UnderWay (rows : List Row) (w₀ e₀ p₀ t₀ : List ℕ) (h₀ : Held) (budget : ℕ) (w e p t : List ℕ) (h : Held) (steps : ℕ) : Type 0 where
-  pub run :
-      final (termsOf (length t₀)) budget (stateOf rows w₀ e₀ p₀ t₀ h₀ 0) ≡ final (termsOf (length t₀)) (budget - steps) (stateOf rows w e p t h steps)
-  pub holds : Holds rows w e p t h
-  pub kept : Kept t₀ t (h .records)
+pub record UnderWay (rows : List Row) (a₀ : Arrays) (h₀ : Held) (budget : ℕ) (a : Arrays) (h : Held) (steps : ℕ) : Type 0 where
+  pub ran :
+      run (termsOf (length (a₀ .trace))) budget (stateOf rows a₀ h₀ 0)
+      ≡ run (termsOf (length (a₀ .trace))) (budget - steps) (stateOf rows a h steps)
+  pub holds : Holds rows a h
+  pub kept : Kept (a₀ .trace) (a .trace) (h .records)
   pub within : steps ≤ budget

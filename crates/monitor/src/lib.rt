@@ -5,7 +5,6 @@ use rules::Judged;
 use rules::Marks;
 use rules::Memory;
 use rules::ROW_WORDS;
-use rules::VARIABLES;
 use step::ENTRIES;
 use step::Held;
 use step::SETS;
@@ -18,66 +17,80 @@ ghost use Rattle.rules.specs.declared.Judged.{Judged};
 ghost use Rattle.rules.specs.Limits.{mostTraceWords};
 ghost use Rattle.rules.specs.Judging.{judge};
 ghost use Rattle.rules.specs.Rows.{rowsOf};
-ghost use Rattle.rules.specs.Answers.{answer, traceAfter, toldOf, telling};
-ghost use Rattle.step.specs.Denoted.{Holds};
-ghost use Rattle.monitor.specs.Going.{Went};
+ghost use Rattle.rules.specs.Answers.{RunAnswers};
+ghost use Rattle.step.specs.Denoted.{arrays, Holds};
+ghost use Rattle.monitor.specs.Going.{lent, Went};
 
 // "the lent trace exceeds 16,384 words"
 const MOST_TRACE_WORDS: usize = 16384;
 
-// How a run ended, and what it has reached beside memory and trace.
+// How a run ended, and the state that it has reached: the memory, and how much of each array the rest takes.
 pub struct Reached {
     pub ended: Ended,
     pub steps: u32,
-    pub records: usize,
-    pub marks: Marks,
-}
-
-// What the run has reached where it ends like this.
-fn end_run(ended: Ended, steps: u32, held: Held) -> Reached
-    ensures { λ r. ⌜ r ≡ record { ended = ended; steps = steps; records = held .records; marks = held .marks } ⌝ }
-{
-    Reached {
-        ended,
-        steps,
-        records: held.records,
-        marks: held.marks,
-    }
+    pub held: Held,
+    pub memory: Memory,
 }
 
 // Goes on with the run until it ends: a turn of the loop is one step.
 fn go_on(
     table: &[u32],
-    words: &mut [u32; VARIABLES],
+    memory: Memory,
     entries: &mut [u16; ENTRIES],
-    pile: &mut [u32; SETS],
+    pile: &mut [Marks; SETS],
     trace: &mut [u32],
     held: Held,
     budget: u32,
 ) -> Reached
-    requires { ⌜ Holds (rowsOf (now table)) (now words) (now entries) (now pile) (now trace) held ⌝ }
-    ensures { λ r. ⌜ Went (rowsOf (now (table .entry))) (now (words .entry)) (now (entries .entry)) (now (pile .entry)) (now (trace .entry)) held budget (now (words .exit)) (now (trace .exit)) r ⌝ }
+    requires { ⌜ Holds (rowsOf (now table)) (arrays (memory .words) (now entries) (now pile) (now trace)) held ⌝ }
+    ensures { λ r. ⌜
+        Went (rowsOf (now (table .entry)))
+        (arrays (memory .words) (now (entries .entry)) (now (pile .entry)) (now (trace .entry)))
+        held budget
+        (now (entries .exit)) (now (pile .exit)) (now (trace .exit))
+        r ⌝ }
 {
+    let mut words = memory.words;
     let mut here = held;
     let mut steps: u32 = 0;
     loop {
         if here.pending == 0 {
-            return end_run(Ended::Done, steps, here);
+            return Reached {
+                ended: Ended::Done,
+                steps,
+                held: here,
+                memory: Memory { words },
+            };
         }
         if steps == budget {
-            return end_run(Ended::Spent, steps, here);
+            return Reached {
+                ended: Ended::Spent,
+                steps,
+                held: here,
+                memory: Memory { words },
+            };
         }
-        let turn = step::step(table, words, entries, pile, trace, here);
+        let turn = step::step(table, &mut words, entries, pile, trace, here);
         match turn {
             Turn::Went(next) => {
                 here = next;
                 steps += 1;
             }
             Turn::Stopped(row) => {
-                return end_run(Ended::Stopped(row), steps, here);
+                return Reached {
+                    ended: Ended::Stopped(row),
+                    steps,
+                    held: here,
+                    memory: Memory { words },
+                };
             }
             Turn::NoRoom(row) => {
-                return end_run(Ended::NoRoom(row), steps, here);
+                return Reached {
+                    ended: Ended::NoRoom(row),
+                    steps,
+                    held: here,
+                    memory: Memory { words },
+                };
             }
         }
     }
@@ -105,11 +118,12 @@ fn run_accepted(
     trace: &mut [u32],
 ) -> Answer
     requires { ⌜ (judge (now table) ≡ Judged.Accepted) × (length (now trace) ≤ mostTraceWords) ⌝ }
-    ensures { λ r. ⌜ (toldOf r ≡ telling (answer (now (table .entry)) (memory .words) marks budget (length (now (trace .entry))))) × (now (trace .exit) ≡ traceAfter (answer (now (table .entry)) (memory .words) marks budget (length (now (trace .entry))) .records) (now (trace .entry))) ⌝ }
+    ensures { λ r. ⌜
+        RunAnswers (lent (now (table .entry)) memory marks budget (now (trace .entry))) r
+        (now (trace .exit)) ⌝ }
 {
-    let mut words = memory.words;
     let mut entries = [0u16; ENTRIES];
-    let mut pile = [0u32; SETS];
+    let mut pile = [0 as Marks; SETS];
     entries[0] = (table.len() / ROW_WORDS) as u16;
     let held = Held {
         pending: 1,
@@ -117,30 +131,25 @@ fn run_accepted(
         records: 0,
         marks,
     };
-    let reached = go_on(
-        table,
-        &mut words,
-        &mut entries,
-        &mut pile,
-        trace,
-        held,
-        budget,
-    );
+    let reached = go_on(table, memory, &mut entries, &mut pile, trace, held, budget);
     let ended = reached.ended;
-    let records = reached.records as u32;
+    let records = reached.held.records as u32;
+    let after = reached.memory;
     Answer {
         ended,
         steps: reached.steps,
         records,
-        memory: Memory { words },
-        marks: reached.marks,
+        memory: after,
+        marks: reached.held.marks,
     }
 }
 
 // Runs a recipe under the monitor, within a budget of steps and the room that the lent trace has: how it ended, with the
 // steps, records, memory and marks that it reached. A bad table or an oversized trace is refused, and then nothing has changed.
 pub fn run(table: &[u32], memory: Memory, marks: Marks, budget: u32, trace: &mut [u32]) -> Answer
-    ensures { λ r. ⌜ (toldOf r ≡ telling (answer (now (table .entry)) (memory .words) marks budget (length (now (trace .entry))))) × (now (trace .exit) ≡ traceAfter (answer (now (table .entry)) (memory .words) marks budget (length (now (trace .entry))) .records) (now (trace .entry))) ⌝ }
+    ensures { λ r. ⌜
+        RunAnswers (lent (now (table .entry)) memory marks budget (now (trace .entry))) r
+        (now (trace .exit)) ⌝ }
 {
     let judged = table::judge(table);
     if let Judged::Refused { number, row } = judged {

@@ -24,7 +24,7 @@ use Rattle.expression.specs.Valued.{valuedOf}
 use Rattle.rules.specs.Running.{Item, statement, close, context, push}
 use Rattle.rules.specs.Bounds.{mostPending}
 use Rattle.step.specs.Denoted.{itemOf, itemsOf, setsOf, recordsOf, Entry, Entries}
-use Rattle.step.specs.Turns.{Kept, Ready, Opened}
+use Rattle.step.specs.Turns.{guards, denies, Kept, Ready, Pushed, Opened}
 use Rattle.step.specs.declared.Held.{Held}
 
 -- ---- one entry
@@ -70,6 +70,22 @@ pub items-length : (rows : List Row) (entries : List ℕ) (n : ℕ) → length (
 unfolding itemsOf
 items-length rows entries zero = refl
 items-length rows entries (suc n) = ap suc (items-length rows entries n)
+
+-- entries that are the same hold the same items
+pub items-same :
+    (rows : List Row) (entries entries′ : List ℕ) (n : ℕ) → ((i : ℕ) → i < n → getD entries i 0 ≡ getD entries′ i 0)
+    → itemsOf rows entries n ≡ itemsOf rows entries′ n
+unfolding itemsOf
+items-same rows entries entries′ zero same = refl
+items-same rows entries entries′ (suc n) same =
+    ap₂ (λ (y : ℕ) (k : List Item). itemOf rows y ∷ k) (same n (omega arith)) (items-same rows entries entries′ n (λ i h. same i (omega arith)))
+
+pub entries-same :
+    (rows : List Row) (entries entries′ : List ℕ) (n : ℕ) → ((i : ℕ) → i < n → getD entries i 0 ≡ getD entries′ i 0)
+    → Entries rows entries n → Entries rows entries′ n
+entries-same rows entries entries′ zero same named = tt
+entries-same rows entries entries′ (suc n) same named =
+    (subst (Entry rows) (same n (omega arith)) (named .0), entries-same rows entries entries′ n (λ i h. same i (omega arith)) (named .1))
 
 entries-pop : (rows : List Row) (entries : List ℕ) (n : ℕ) → Entries rows entries (n + 1) → Entry rows (getD entries n 0) × Entries rows entries n
 entries-pop rows entries n h = subst (Entries rows entries) (add-one n) h
@@ -181,18 +197,18 @@ kept-then a b c m n h f g = record {
 
 -- ---- a push that depends on the level of a test and on the context
 
-module _ (pile : List ℕ) (n level x : ℕ) where
-  guard-law : (b : Bool) → b ≡ (provisional level || not (eqb n 0)) → (provisional level || context (setsOf pile n)) ≡ b
+module _ (pile : List ℕ) (n level x : ℕ) (long : length pile ≡ mostNesting) where
+  guard-law : (b : Bool) → b ≡ guards level n → (provisional level || context (setsOf pile n)) ≡ b
   guard-law b e = ap (λ (c : Bool). provisional level || c) (context-law pile n) ∙ sym e
 
-  pub pushed-law :
-      true ≡ (provisional level || not (eqb n 0)) → n < length pile
-      → setsOf (set pile n x) (n + 1) ≡ push (provisional level || context (setsOf pile n)) x (setsOf pile n)
-  pushed-law e h = sets-push pile n x h ∙ sym (ap (λ (b : Bool). push b x (setsOf pile n)) (guard-law true e))
+  pub pushed-law : true ≡ guards level n → n < mostNesting → Pushed pile n level x (set pile n x) (n + 1)
+  pushed-law e h = record {
+    long = length-set pile n x ∙ long;
+    sets = sets-push pile n x (omega arith) ∙ sym (ap (λ (b : Bool). push b x (setsOf pile n)) (guard-law true e));
+  }
 
-  pub unpushed-law :
-      false ≡ (provisional level || not (eqb n 0)) → setsOf pile n ≡ push (provisional level || context (setsOf pile n)) x (setsOf pile n)
-  unpushed-law e = sym (ap (λ (b : Bool). push b x (setsOf pile n)) (guard-law false e))
+  pub unpushed-law : false ≡ guards level n → Pushed pile n level x pile n
+  unpushed-law e = record { long = long; sets = sym (ap (λ (b : Bool). push b x (setsOf pile n)) (guard-law false e)) }
 
 -- ---- what an if or while opens
 
@@ -216,8 +232,7 @@ module _ (rows : List Row) (e : List ℕ) (n : ℕ) (long : length e ≡ mostPen
   two-long : (x : ℕ) → length (set (set e n 0) (n + 1) (x + 1)) ≡ mostPending
   two-long x = length-set (set e n 0) (n + 1) (x + 1) ∙ length-set e n 0 ∙ long
 
-module _ (rows : List Row) (e p : List ℕ) (h : Held) (level pushed : ℕ) (p′ : List ℕ) (height : ℕ) (long : length p′ ≡ mostNesting)
-    (sets : setsOf p′ height ≡ push (provisional level || context (setsOf p (h .pile))) pushed (setsOf p (h .pile))) where
+module _ (rows : List Row) (e p : List ℕ) (h : Held) (level pushed : ℕ) (p′ : List ℕ) (height : ℕ) (pile : Pushed p (h .pile) level pushed p′ height) where
   opened :
       (k : List Item) (e′ : List ℕ) (n : ℕ) → itemsOf rows e′ n ≡ k → Entries rows e′ n → length e′ ≡ mostPending
       → Opened rows p h k level pushed e′ p′ (record { pending = n; pile = height; records = h .records; marks = h .marks })
@@ -225,8 +240,7 @@ module _ (rows : List Row) (e p : List ℕ) (h : Held) (level pushed : ℕ) (p�
     items = items;
     named = named;
     entries-long = entries-long;
-    sets = sets;
-    pile-long = long;
+    pile = pile;
     records = refl;
     marks = refl;
   }
@@ -303,17 +317,17 @@ module _ (w : List ℕ) (marks : ℕ) (x : Expr) (v : Valued) (evaluated : v ≡
 
   -- the marks after an assignment to a variable of the table
   pub marks-found :
-      (p height m : ℕ) (bit : Bool) → p < width → bit ≡ (provisional (v .level) || not (eqb height 0)) → m ≡ put (p % width) bit marks
-      → m ≡ put p (provisional (level marks x) || not (eqb height 0)) marks
+      (p height m : ℕ) (bit : Bool) → p < width → bit ≡ guards (v .level) height → m ≡ put (p % width) bit marks
+      → m ≡ put p (guards (level marks x) height) marks
   marks-found p height m bit small eb em =
-      em ∙ ap₂ (λ (i : ℕ) (b : Bool). put i b marks) (mod-eq-of-lt small) (eb ∙ ap (λ (l : ℕ). provisional l || not (eqb height 0)) level-found)
+      em ∙ ap₂ (λ (i : ℕ) (b : Bool). put i b marks) (mod-eq-of-lt small) (eb ∙ ap (λ (l : ℕ). guards l height) level-found)
 
   -- whether an output of it is denied
   pub denied-found :
-      (channel height : ℕ) (b d : Bool) → d ≡ (eqb channel 0 && (provisional (v .level) || not (eqb height 0))) → d ≡ b
-      → (eqb channel 0 && (provisional (level marks x) || not (eqb height 0))) ≡ b
+      (channel height : ℕ) (b d : Bool) → d ≡ denies channel (v .level) height → d ≡ b
+      → denies channel (level marks x) height ≡ b
   denied-found channel height b d e known =
-      ap (λ (l : ℕ). eqb channel 0 && (provisional l || not (eqb height 0))) (sym level-found) ∙ sym e ∙ known
+      ap (λ (l : ℕ). denies channel l height) (sym level-found) ∙ sym e ∙ known
 
 -- with room for more entries there is room for fewer
 pub ready-less : (rows : List Row) (e p : List ℕ) (h : Held) (more fewer : ℕ) → fewer ≤ more → Ready rows e p h more → Ready rows e p h fewer

@@ -9,7 +9,7 @@ use Rattle.rules.specs.declared.Row.{Row}
 use Rattle.rules.specs.Limits.{width, mostNesting}
 use Rattle.rules.specs.Rows.{isStatement, rowAt}
 use Rattle.rules.specs.Trees.{stmtAt}
-use Rattle.rules.specs.Running.{Item, statement, close, Record, State}
+use Rattle.rules.specs.Running.{Item, statement, close, Record, Log, State, state}
 use Rattle.rules.specs.Bounds.{mostPending, Bounds}
 use Rattle.rules.specs.Sound.{Sound}
 use Rattle.step.specs.declared.Held.{Held}
@@ -33,16 +33,24 @@ unfoldable pub recordsOf : List ℕ → ℕ → List Record
 recordsOf trace zero = []
 recordsOf trace (suc n) = recordsOf trace n ++ (record { channel = getD trace (n * 2) 0; value = getD trace (n * 2 + 1) 0 } ∷ [])
 
+-- what the run has to show, after so many steps, where so many records stand in the trace
+abbrev pub logOf : List ℕ → ℕ → ℕ → Log
+logOf trace records steps = record { records = recordsOf trace records; steps = steps }
+
+-- The arrays in which a run's state stands: memory's words, the pending entries, the pile's sets, the trace.
+pub record Arrays : Type 0 where
+  pub words : List ℕ
+  pub entries : List ℕ
+  pub pile : List ℕ
+  pub trace : List ℕ
+
+abbrev pub arrays : List ℕ → List ℕ → List ℕ → List ℕ → Arrays
+arrays words entries pile trace = record { words = words; entries = entries; pile = pile; trace = trace }
+
 -- the state that the arrays hold, after so many steps
-abbrev pub stateOf : List Row → List ℕ → List ℕ → List ℕ → List ℕ → Held → ℕ → State
-stateOf rows words entries pile trace held steps = record {
-  pending = itemsOf rows entries (held .pending);
-  memory = words;
-  marks = held .marks;
-  pile = setsOf pile (held .pile);
-  records = recordsOf trace (held .records);
-  steps = steps;
-}
+abbrev pub stateOf : List Row → Arrays → Held → ℕ → State
+stateOf rows a held steps =
+    state (itemsOf rows (a .entries) (held .pending)) (a .words) (held .marks) (setsOf (a .pile) (held .pile)) (logOf (a .trace) (held .records) steps)
 
 -- the entry is a close, or names a statement of the table
 abbrev pub Entry : List Row → ℕ → Type 0
@@ -53,11 +61,11 @@ Entries rows entries zero = Unit {0}
 Entries rows entries (suc n) = Entry rows (getD entries n 0) × Entries rows entries n
 
 -- the arrays hold a state of a run of a judged table
-pub record Holds (rows : List Row) (words entries pile trace : List ℕ) (held : Held) : Type 0 where
+pub record Holds (rows : List Row) (a : Arrays) (held : Held) : Type 0 where
   pub sound : Sound rows
-  pub words-long : length words ≡ width
-  pub entries-long : length entries ≡ mostPending
-  pub pile-long : length pile ≡ mostNesting
-  pub named : Entries rows entries (held .pending)
-  pub bounds : Bounds (itemsOf rows entries (held .pending)) words (held .marks) (setsOf pile (held .pile)) (recordsOf trace (held .records))
-  pub written : held .records * 2 ≤ length trace
+  pub words-long : length (a .words) ≡ width
+  pub entries-long : length (a .entries) ≡ mostPending
+  pub pile-long : length (a .pile) ≡ mostNesting
+  pub named : Entries rows (a .entries) (held .pending)
+  pub bounds : Bounds (itemsOf rows (a .entries) (held .pending)) (held .marks) (setsOf (a .pile) (held .pile))
+  pub written : held .records * 2 ≤ length (a .trace)

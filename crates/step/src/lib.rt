@@ -12,23 +12,19 @@ use rules::MOST_ROWS;
 use rules::Marks;
 use rules::Row;
 use rules::VARIABLES;
-ghost use mathlib.Core.Bool.{true, false, not, _||_, _&&_};
-ghost use mathlib.Core.List.{_∷_};
 ghost use mathlib.Core.Path.{_≡_};
-ghost use Prim.Native.Nat.{ℕ, _+_, _-_, _*_, _%_, _<_, _≤_};
-ghost use lib.Dec.{eqb};
-ghost use lib.ListN.{length, getD, set};
+ghost use mathlib.Core.Bool.{true, false};
+ghost use Prim.Native.Nat.{_<_, _≤_};
+ghost use lib.ListN.{length};
 ghost use Rattle.rules.specs.declared.Kind.{Kind};
-ghost use Rattle.rules.specs.Limits.{width, mostNesting};
-ghost use Rattle.rules.specs.Marks.{none, put, union, provisional};
-ghost use Rattle.rules.specs.Rows.{rowsOf, rowAt};
+ghost use Rattle.rules.specs.Limits.{mostNesting};
+ghost use Rattle.rules.specs.Marks.{none};
+ghost use Rattle.rules.specs.Rows.{rowsOf};
 ghost use Rattle.rules.specs.Trees.{exprAt, stmtAt};
-ghost use Rattle.rules.specs.Values.{value, holds, level, mayAssign};
-ghost use Rattle.rules.specs.Running.{statement, close, context, push};
-ghost use Rattle.rules.specs.Bounds.{mostPending, Roomy};
+ghost use Rattle.rules.specs.Values.{mayAssign};
 ghost use Rattle.rules.specs.Sound.{Sound};
-ghost use Rattle.step.specs.Denoted.{itemsOf, setsOf, Entry, Entries, Holds};
-ghost use Rattle.step.specs.Turns.{Ready, Opened, Apart, Found, PutOut, Turned};
+ghost use Rattle.step.specs.Denoted.{arrays, Entry, Holds};
+ghost use Rattle.step.specs.Turns.{guards, denies, Pushed, closedHeld, Ready, Statement, BranchOpened, LoopLeft, LoopTurned, CanAssign, assignedWords, assignedHeld, CanBranch, Branched, CanLoop, Looped, CanPutOut, PutOut, CanTakeApart, TakenApart, Found, Applied, Turned};
 
 // The pile holds at most as many sets as there are levels of nesting.
 pub const SETS: usize = MOST_NESTING as usize;
@@ -61,7 +57,7 @@ pub struct Next {
 
 // Whether an expression of this level, or the context of a pile of this height, is provisional.
 fn is_guarded(level: Marks, height: usize) -> bool
-    ensures { λ r. ⌜ r ≡ (provisional level || not (eqb height 0)) ⌝ }
+    ensures { λ r. ⌜ r ≡ guards level height ⌝ }
 {
     if level != 0 {
         return true;
@@ -71,7 +67,7 @@ fn is_guarded(level: Marks, height: usize) -> bool
 
 // Whether the monitor denies an output: on channel 0, where the expression or the context is provisional.
 fn is_denied(channel: u32, level: Marks, height: usize) -> bool
-    ensures { λ r. ⌜ r ≡ (eqb channel 0 && (provisional level || not (eqb height 0))) ⌝ }
+    ensures { λ r. ⌜ r ≡ denies channel level height ⌝ }
 {
     if channel != 0 {
         return false;
@@ -80,9 +76,9 @@ fn is_denied(channel: u32, level: Marks, height: usize) -> bool
 }
 
 // Pushes the empty set if the test or the context is provisional, and answers the pile's height.
-fn push_none(pile: &mut [u32; SETS], height: usize, level: Marks) -> usize
+fn push_none(pile: &mut [Marks; SETS], height: usize, level: Marks) -> usize
     requires { ⌜ (length (now pile) ≡ mostNesting) × (height < mostNesting) ⌝ }
-    ensures { λ r. ⌜ (length (now (pile .exit)) ≡ mostNesting) × (setsOf (now (pile .exit)) r ≡ push (provisional level || context (setsOf (now (pile .entry)) height)) none (setsOf (now (pile .entry)) height)) ⌝ }
+    ensures { λ r. ⌜ Pushed (now (pile .entry)) height level none (now (pile .exit)) r ⌝ }
 {
     if is_guarded(level, height) {
         pile[height] = 0;
@@ -92,9 +88,19 @@ fn push_none(pile: &mut [u32; SETS], height: usize, level: Marks) -> usize
 }
 
 // Pushes what the statement at a row may assign if the test or the context is provisional, and answers the pile's height.
-fn push_unrun(table: &[u32], pile: &mut [u32; SETS], height: usize, level: Marks, row: u32) -> usize
-    requires { ⌜ Sound (rowsOf (now table)) × (row < length (rowsOf (now table))) × (length (now pile) ≡ mostNesting) × (height < mostNesting) ⌝ }
-    ensures { λ r. ⌜ (length (now (pile .exit)) ≡ mostNesting) × (setsOf (now (pile .exit)) r ≡ push (provisional level || context (setsOf (now (pile .entry)) height)) (mayAssign (stmtAt (rowsOf (now (table .entry))) row)) (setsOf (now (pile .entry)) height)) ⌝ }
+fn push_unrun(
+    table: &[u32],
+    pile: &mut [Marks; SETS],
+    height: usize,
+    level: Marks,
+    row: u32,
+) -> usize
+    requires { ⌜
+        Sound (rowsOf (now table)) × (row < length (rowsOf (now table)))
+        × (length (now pile) ≡ mostNesting) × (height < mostNesting) ⌝ }
+    ensures { λ r. ⌜
+        Pushed (now (pile .entry)) height level (mayAssign (stmtAt (rowsOf (now (table .entry))) row))
+        (now (pile .exit)) r ⌝ }
 {
     if is_guarded(level, height) {
         pile[height] = may_assign(table, row);
@@ -104,10 +110,9 @@ fn push_unrun(table: &[u32], pile: &mut [u32; SETS], height: usize, level: Marks
 }
 
 // The state after a close: the top of the pile, where there is one, is popped and added to the marks.
-fn closed_held(pile: &[u32; SETS], held: Held) -> Held
+fn closed_held(pile: &[Marks; SETS], held: Held) -> Held
     requires { ⌜ (length (now pile) ≡ mostNesting) × (held .pile ≤ mostNesting) × (0 < held .pending) ⌝ }
-    ensures empty { λ r. ⌜ (held .pile ≡ 0 → r ≡ record { pending = held .pending - 1; pile = held .pile; records = held .records; marks = held .marks }) ⌝ }
-    ensures popped { λ r. ⌜ ((held .pile ≡ 0 → ⊥) → r ≡ record { pending = held .pending - 1; pile = held .pile - 1; records = held .records; marks = union (getD (now (pile .entry)) (held .pile - 1) 0) (held .marks) }) ⌝ }
+    ensures { λ r. ⌜ r ≡ closedHeld (now (pile .entry)) held ⌝ }
 {
     let height = held.pile;
     if height == 0 {
@@ -132,14 +137,19 @@ fn closed_held(pile: &[u32; SETS], held: Held) -> Held
 fn open_branch(
     table: &[u32],
     entries: &mut [u16; ENTRIES],
-    pile: &mut [u32; SETS],
+    pile: &mut [Marks; SETS],
     held: Held,
     level: Marks,
     taken: u32,
     other: u32,
 ) -> Held
-    requires { ⌜ Ready (rowsOf (now table)) (now entries) (now pile) held 1 × Entry (rowsOf (now table)) (taken + 1) × (taken < length (rowsOf (now table))) × (other < length (rowsOf (now table))) ⌝ }
-    ensures { λ r. ⌜ Opened (rowsOf (now (table .entry))) (now (pile .entry)) held (statement (stmtAt (rowsOf (now (table .entry))) taken) ∷ close ∷ itemsOf (rowsOf (now (table .entry))) (now (entries .entry)) (held .pending - 1)) level (mayAssign (stmtAt (rowsOf (now (table .entry))) other)) (now (entries .exit)) (now (pile .exit)) r ⌝ }
+    requires { ⌜
+        Ready (rowsOf (now table)) (now entries) (now pile) held 1
+        × Statement (rowsOf (now table)) taken
+        × (other < length (rowsOf (now table))) ⌝ }
+    ensures { λ r. ⌜
+        BranchOpened (rowsOf (now (table .entry))) (now (entries .entry)) (now (pile .entry)) held level taken other
+        (now (entries .exit)) (now (pile .exit)) r ⌝ }
 {
     let n = held.pending;
     entries[n - 1] = 0;
@@ -158,13 +168,15 @@ fn open_branch(
 fn leave_loop(
     table: &[u32],
     entries: &mut [u16; ENTRIES],
-    pile: &mut [u32; SETS],
+    pile: &mut [Marks; SETS],
     held: Held,
     level: Marks,
     body: u32,
 ) -> Held
     requires { ⌜ Ready (rowsOf (now table)) (now entries) (now pile) held 0 × (body < length (rowsOf (now table))) ⌝ }
-    ensures { λ r. ⌜ Opened (rowsOf (now (table .entry))) (now (pile .entry)) held (close ∷ itemsOf (rowsOf (now (table .entry))) (now (entries .entry)) (held .pending - 1)) level (mayAssign (stmtAt (rowsOf (now (table .entry))) body)) (now (entries .exit)) (now (pile .exit)) r ⌝ }
+    ensures { λ r. ⌜
+        LoopLeft (rowsOf (now (table .entry))) (now (entries .entry)) (now (pile .entry)) held level body
+        (now (entries .exit)) (now (pile .exit)) r ⌝ }
 {
     let n = held.pending;
     entries[n - 1] = 0;
@@ -182,13 +194,15 @@ fn leave_loop(
 fn turn_loop(
     table: &[u32],
     entries: &mut [u16; ENTRIES],
-    pile: &mut [u32; SETS],
+    pile: &mut [Marks; SETS],
     held: Held,
     level: Marks,
     body: u32,
 ) -> Held
-    requires { ⌜ Ready (rowsOf (now table)) (now entries) (now pile) held 2 × Entry (rowsOf (now table)) (body + 1) × (body < length (rowsOf (now table))) ⌝ }
-    ensures { λ r. ⌜ Opened (rowsOf (now (table .entry))) (now (pile .entry)) held (statement (stmtAt (rowsOf (now (table .entry))) body) ∷ close ∷ itemsOf (rowsOf (now (table .entry))) (now (entries .entry)) (held .pending)) level none (now (entries .exit)) (now (pile .exit)) r ⌝ }
+    requires { ⌜ Ready (rowsOf (now table)) (now entries) (now pile) held 2 × Statement (rowsOf (now table)) body ⌝ }
+    ensures { λ r. ⌜
+        LoopTurned (rowsOf (now (table .entry))) (now (entries .entry)) (now (pile .entry)) held level body
+        (now (entries .exit)) (now (pile .exit)) r ⌝ }
 {
     let n = held.pending;
     entries[n] = 0;
@@ -204,9 +218,9 @@ fn turn_loop(
 
 // An assignment: the variable takes the value, and is marked if the expression or the context is provisional, else unmarked.
 fn assign(table: &[u32], words: &mut [u32; VARIABLES], held: Held, row: Row) -> Held
-    requires { ⌜ Sound (rowsOf (now table)) × (length (now words) ≡ width) × (row .q < length (rowsOf (now table))) × (row .p < width) × (0 < held .pending) ⌝ }
-    ensures stored { λ r. ⌜ now (words .exit) ≡ set (now (words .entry)) (row .p) (value (now (words .entry)) (exprAt (rowsOf (now (table .entry))) (row .q))) ⌝ }
-    ensures marked { λ r. ⌜ r ≡ record { pending = held .pending - 1; pile = held .pile; records = held .records; marks = put (row .p) (provisional (level (held .marks) (exprAt (rowsOf (now (table .entry))) (row .q))) || not (eqb (held .pile) 0)) (held .marks) } ⌝ }
+    requires { ⌜ CanAssign (rowsOf (now table)) (now words) held row ⌝ }
+    ensures stored { λ r. ⌜ now (words .exit) ≡ assignedWords (rowsOf (now (table .entry))) (now (words .entry)) row ⌝ }
+    ensures marked { λ r. ⌜ r ≡ assignedHeld (rowsOf (now (table .entry))) held row ⌝ }
 {
     let right = evaluate(table, row.q, words, held.marks);
     store_lent(words, row.p, right.value);
@@ -224,13 +238,14 @@ fn branch(
     table: &[u32],
     words: &[u32; VARIABLES],
     entries: &mut [u16; ENTRIES],
-    pile: &mut [u32; SETS],
+    pile: &mut [Marks; SETS],
     held: Held,
     row: Row,
 ) -> Held
-    requires { ⌜ Ready (rowsOf (now table)) (now entries) (now pile) held 1 × (length (now words) ≡ width) × (row .p < length (rowsOf (now table))) × (Entry (rowsOf (now table)) (row .q + 1) × (row .q < length (rowsOf (now table)))) × (Entry (rowsOf (now table)) (row .r + 1) × (row .r < length (rowsOf (now table)))) ⌝ }
-    ensures then { λ r. ⌜ (holds (now (words .entry)) (exprAt (rowsOf (now (table .entry))) (row .p)) ≡ true → Opened (rowsOf (now (table .entry))) (now (pile .entry)) held (statement (stmtAt (rowsOf (now (table .entry))) (row .q)) ∷ close ∷ itemsOf (rowsOf (now (table .entry))) (now (entries .entry)) (held .pending - 1)) (level (held .marks) (exprAt (rowsOf (now (table .entry))) (row .p))) (mayAssign (stmtAt (rowsOf (now (table .entry))) (row .r))) (now (entries .exit)) (now (pile .exit)) r) ⌝ }
-    ensures otherwise { λ r. ⌜ (holds (now (words .entry)) (exprAt (rowsOf (now (table .entry))) (row .p)) ≡ false → Opened (rowsOf (now (table .entry))) (now (pile .entry)) held (statement (stmtAt (rowsOf (now (table .entry))) (row .r)) ∷ close ∷ itemsOf (rowsOf (now (table .entry))) (now (entries .entry)) (held .pending - 1)) (level (held .marks) (exprAt (rowsOf (now (table .entry))) (row .p))) (mayAssign (stmtAt (rowsOf (now (table .entry))) (row .q))) (now (entries .exit)) (now (pile .exit)) r) ⌝ }
+    requires { ⌜ CanBranch (rowsOf (now table)) (now words) (now entries) (now pile) held row ⌝ }
+    ensures { λ r. ⌜
+        Branched (rowsOf (now (table .entry))) (now (words .entry)) (now (entries .entry)) (now (pile .entry)) held row
+        (now (entries .exit)) (now (pile .exit)) r ⌝ }
 {
     let test = evaluate(table, row.p, words, held.marks);
     if test.value != 0 {
@@ -244,13 +259,14 @@ fn loop_on(
     table: &[u32],
     words: &[u32; VARIABLES],
     entries: &mut [u16; ENTRIES],
-    pile: &mut [u32; SETS],
+    pile: &mut [Marks; SETS],
     held: Held,
     row: Row,
 ) -> Held
-    requires { ⌜ Ready (rowsOf (now table)) (now entries) (now pile) held 2 × (length (now words) ≡ width) × (row .p < length (rowsOf (now table))) × (Entry (rowsOf (now table)) (row .q + 1) × (row .q < length (rowsOf (now table)))) ⌝ }
-    ensures turns { λ r. ⌜ (holds (now (words .entry)) (exprAt (rowsOf (now (table .entry))) (row .p)) ≡ true → Opened (rowsOf (now (table .entry))) (now (pile .entry)) held (statement (stmtAt (rowsOf (now (table .entry))) (row .q)) ∷ close ∷ itemsOf (rowsOf (now (table .entry))) (now (entries .entry)) (held .pending)) (level (held .marks) (exprAt (rowsOf (now (table .entry))) (row .p))) none (now (entries .exit)) (now (pile .exit)) r) ⌝ }
-    ensures leaves { λ r. ⌜ (holds (now (words .entry)) (exprAt (rowsOf (now (table .entry))) (row .p)) ≡ false → Opened (rowsOf (now (table .entry))) (now (pile .entry)) held (close ∷ itemsOf (rowsOf (now (table .entry))) (now (entries .entry)) (held .pending - 1)) (level (held .marks) (exprAt (rowsOf (now (table .entry))) (row .p))) (mayAssign (stmtAt (rowsOf (now (table .entry))) (row .q))) (now (entries .exit)) (now (pile .exit)) r) ⌝ }
+    requires { ⌜ CanLoop (rowsOf (now table)) (now words) (now entries) (now pile) held row ⌝ }
+    ensures { λ r. ⌜
+        Looped (rowsOf (now (table .entry))) (now (words .entry)) (now (entries .entry)) (now (pile .entry)) held row
+        (now (entries .exit)) (now (pile .exit)) r ⌝ }
 {
     let test = evaluate(table, row.p, words, held.marks);
     if test.value != 0 {
@@ -268,8 +284,10 @@ fn put_out(
     at: u32,
     row: Row,
 ) -> Turn
-    requires { ⌜ Sound (rowsOf (now table)) × (length (now words) ≡ width) × (row .q < length (rowsOf (now table))) × (0 < held .pending) × (held .records * 2 ≤ length (now trace)) ⌝ }
-    ensures { λ r. ⌜ PutOut at (row .p) (exprAt (rowsOf (now (table .entry))) (row .q)) (now (words .entry)) (now (trace .entry)) held (now (trace .exit)) r ⌝ }
+    requires { ⌜ CanPutOut (rowsOf (now table)) (now words) (now trace) held row ⌝ }
+    ensures { λ r. ⌜
+        PutOut at (row .p) (exprAt (rowsOf (now (table .entry))) (row .q)) (now (words .entry)) (now (trace .entry)) held
+        (now (trace .exit)) r ⌝ }
 {
     let shown = evaluate(table, row.q, words, held.marks);
     if is_denied(row.p, shown.level, held.pile) {
@@ -309,8 +327,10 @@ fn take_apart(
     at: u32,
     row: Row,
 ) -> Next
-    requires { ⌜ Sound (rowsOf (now table)) × (length (now entries) ≡ mostPending) × Entries (rowsOf (now table)) (now entries) pending × Roomy (itemsOf (rowsOf (now table)) (now entries) pending) × Found (rowsOf (now table)) (now entries) pending at row ⌝ }
-    ensures { λ r. ⌜ Apart (rowsOf (now (table .entry))) (now (entries .entry)) pending (now (entries .exit)) (r .pending) × Found (rowsOf (now (table .entry))) (now (entries .exit)) (r .pending) (r .at) (r .row) × (r .row .kind ≡ Kind.Sequence → ⊥) ⌝ }
+    requires { ⌜ CanTakeApart (rowsOf (now table)) (now entries) pending at row ⌝ }
+    ensures { λ r. ⌜
+        TakenApart (rowsOf (now (table .entry))) (now (entries .entry)) pending
+        (now (entries .exit)) (r .pending) (r .at) (r .row) ⌝ }
 {
     let mut n = pending;
     let mut i = at;
@@ -334,14 +354,22 @@ fn apply(
     table: &[u32],
     words: &mut [u32; VARIABLES],
     entries: &mut [u16; ENTRIES],
-    pile: &mut [u32; SETS],
+    pile: &mut [Marks; SETS],
     trace: &mut [u32],
     held: Held,
     at: u32,
     row: Row,
 ) -> Turn
-    requires { ⌜ Holds (rowsOf (now table)) (now words) (now entries) (now pile) (now trace) held × Found (rowsOf (now table)) (now entries) (held .pending) at row × (row .kind ≡ Kind.Sequence → ⊥) ⌝ }
-    ensures { λ r. ⌜ Turned (rowsOf (now (table .entry))) (now (words .entry)) (now (entries .entry)) (now (pile .entry)) (now (trace .entry)) held (now (words .exit)) (now (entries .exit)) (now (pile .exit)) (now (trace .exit)) r ⌝ }
+    requires { ⌜
+        Holds (rowsOf (now table)) (arrays (now words) (now entries) (now pile) (now trace)) held
+        × Found (rowsOf (now table)) (now entries) (held .pending) at row
+        × (row .kind ≡ Kind.Sequence → ⊥) ⌝ }
+    ensures { λ r. ⌜
+        Applied (rowsOf (now (table .entry)))
+        (arrays (now (words .entry)) (now (entries .entry)) (now (pile .entry)) (now (trace .entry)))
+        held
+        (arrays (now (words .exit)) (now (entries .exit)) (now (pile .exit)) (now (trace .exit)))
+        r ⌝ }
 {
     let kind = row.kind;
     match kind {
@@ -363,12 +391,19 @@ pub fn step(
     table: &[u32],
     words: &mut [u32; VARIABLES],
     entries: &mut [u16; ENTRIES],
-    pile: &mut [u32; SETS],
+    pile: &mut [Marks; SETS],
     trace: &mut [u32],
     held: Held,
 ) -> Turn
-    requires { ⌜ Holds (rowsOf (now table)) (now words) (now entries) (now pile) (now trace) held × (0 < held .pending) ⌝ }
-    ensures { λ r. ⌜ Turned (rowsOf (now (table .entry))) (now (words .entry)) (now (entries .entry)) (now (pile .entry)) (now (trace .entry)) held (now (words .exit)) (now (entries .exit)) (now (pile .exit)) (now (trace .exit)) r ⌝ }
+    requires { ⌜
+        Holds (rowsOf (now table)) (arrays (now words) (now entries) (now pile) (now trace)) held
+        × (0 < held .pending) ⌝ }
+    ensures { λ r. ⌜
+        Turned (rowsOf (now (table .entry)))
+        (arrays (now (words .entry)) (now (entries .entry)) (now (pile .entry)) (now (trace .entry)))
+        held
+        (arrays (now (words .exit)) (now (entries .exit)) (now (pile .exit)) (now (trace .exit)))
+        r ⌝ }
 {
     let n = held.pending;
     let entry = entries[n - 1];
@@ -385,7 +420,7 @@ pub fn step(
         marks: held.marks,
     };
     let statement = next.row;
-    apply(
+    let turn = apply(
         table,
         words,
         entries,
@@ -394,5 +429,11 @@ pub fn step(
         opened,
         next.at,
         statement,
-    )
+    );
+    if let Turn::Went(_) = turn {
+        return turn;
+    }
+    // nothing was done: the sequences stand again as they stood
+    entries[n - 1] = entry;
+    turn
 }

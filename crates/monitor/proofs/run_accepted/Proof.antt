@@ -36,10 +36,10 @@ returns : tie.Need-returns
 returns c =
     let start = c .before .before .before .before .before .before .before .before .before .before .before in
     let a = start .args in
-    let went = c .before .before .before .go-on in
-    ran-told (a .table .now) (a .memory .words) (a .marks) (a .budget) (a .trace .now) _ _ (went .result)
-    (ran-answer (a .table .now) (a .memory .words) (a .marks) (start .pre .0) (replicate mostPending 0) (replicate mostNesting 0) (a .trace .now) refl _ refl (start .pre .1) (a .budget) _ _ (went .result) (went .ensures))
-    (went .ensures .kept) (went .ensures .written) _ refl refl refl refl refl
+    let went = c .before .before .before .before .go-on in
+    ran-told (lent (a .table .now) (a .memory) (a .marks) (a .budget) (a .trace .now)) _ _ _ _ _ _ (went .result) (went .ensures)
+    (ran-answer (a .table .now) (a .memory .words) (a .marks) (start .pre .0) (replicate mostPending 0) (replicate mostNesting 0) (a .trace .now) refl _ refl (start .pre .1) (a .budget) _ _ _ (went .result) (went .ensures))
+    _ refl
 
 pub run-accepted-spec : {M : Type 1} → statement M
 run-accepted-spec =

@@ -20,8 +20,7 @@ assign-requires c κs =
     let told = c .before in
     let start = told .before .before .before .before in
     let a = start .args in
-    let needs = assign-needs (rowsOf (a .table .now)) (a .words .now) (a .entries .now) (a .pile .now) (a .trace .now) (a .held) (start .pre .0) (a .at) (a .row) (start .pre .1) (told .enum-told2 .given .1) in
-    (start .pre .0 .sound, start .pre .0 .words-long, needs .0, needs .1, start .pre .1 .some)
+    assign-needs (rowsOf (a .table .now)) (a .words .now) (a .entries .now) (a .pile .now) (a .trace .now) (a .held) (start .pre .0) (a .at) (a .row) (start .pre .1) (told .enum-told2 .given .1)
 
 enum-told-3 : tie.Need-enum-told-3
 enum-told-3 c = search needs
@@ -31,8 +30,7 @@ branch-requires c κs =
     let told = c .before .before .before in
     let start = told .before .before .before .before in
     let a = start .args in
-    let needs = if-needs (rowsOf (a .table .now)) (a .words .now) (a .entries .now) (a .pile .now) (a .trace .now) (a .held) (start .pre .0) (a .at) (a .row) (start .pre .1) (told .enum-told3 .given .1) in
-    (needs .0, start .pre .0 .words-long, needs .1, needs .2, needs .3)
+    if-needs (rowsOf (a .table .now)) (a .words .now) (a .entries .now) (a .pile .now) (a .trace .now) (a .held) (start .pre .0) (a .at) (a .row) (start .pre .1) (told .enum-told3 .given .1)
 
 enum-told-4 : tie.Need-enum-told-4
 enum-told-4 c = search needs
@@ -42,8 +40,7 @@ loop-on-requires c κs =
     let told = c .before .before .before in
     let start = told .before .before .before .before in
     let a = start .args in
-    let needs = while-needs (rowsOf (a .table .now)) (a .words .now) (a .entries .now) (a .pile .now) (a .trace .now) (a .held) (start .pre .0) (a .at) (a .row) (start .pre .1) (told .enum-told4 .given .1) in
-    (needs .0, start .pre .0 .words-long, needs .1, needs .2)
+    while-needs (rowsOf (a .table .now)) (a .words .now) (a .entries .now) (a .pile .now) (a .trace .now) (a .held) (start .pre .0) (a .at) (a .row) (start .pre .1) (told .enum-told4 .given .1)
 
 put-out-requires : tie.Need-put-out-requires
 put-out-requires c κs =
@@ -51,7 +48,7 @@ put-out-requires c κs =
     let start = match .before .before .before in
     let a = start .args in
     let kind = output-left (a .row .kind) (match .match .keys5) (sort (rowsOf (a .table .now)) (a .words .now) (a .entries .now) (a .pile .now) (a .trace .now) (a .held) (start .pre .0) (a .at) (a .row) (start .pre .1)) (start .pre .2) in
-    (start .pre .0 .sound, start .pre .0 .words-long, output-needs (rowsOf (a .table .now)) (a .words .now) (a .entries .now) (a .pile .now) (a .trace .now) (a .held) (start .pre .0) (a .at) (a .row) (start .pre .1) kind, start .pre .1 .some, start .pre .0 .written)
+    output-needs (rowsOf (a .table .now)) (a .words .now) (a .entries .now) (a .pile .now) (a .trace .now) (a .held) (start .pre .0) (a .at) (a .row) (start .pre .1) kind
 
 returns : tie.Need-returns
 returns c =
@@ -72,14 +69,14 @@ returns-3 c =
     let told = c .before .before .before .before in
     let start = told .before .before .before .before in
     let a = start .args in
-    arm-if (rowsOf (a .table .now)) (a .words .now) (a .entries .now) (a .pile .now) (a .trace .now) (a .held) (start .pre .0) (a .at) (a .row) (start .pre .1) (told .enum-told3 .given .1) _ _ (c .branch .result) (c .branch .ensures .0) (c .branch .ensures .1)
+    arm-if (rowsOf (a .table .now)) (a .words .now) (a .entries .now) (a .pile .now) (a .trace .now) (a .held) (start .pre .0) (a .at) (a .row) (start .pre .1) (told .enum-told3 .given .1) _ _ (c .branch .result) (c .branch .ensures)
 
 returns-4 : tie.Need-returns-4
 returns-4 c =
     let told = c .before .before .before .before in
     let start = told .before .before .before .before in
     let a = start .args in
-    arm-while (rowsOf (a .table .now)) (a .words .now) (a .entries .now) (a .pile .now) (a .trace .now) (a .held) (start .pre .0) (a .at) (a .row) (start .pre .1) (told .enum-told4 .given .1) _ _ (c .loop-on .result) (c .loop-on .ensures .0) (c .loop-on .ensures .1)
+    arm-while (rowsOf (a .table .now)) (a .words .now) (a .entries .now) (a .pile .now) (a .trace .now) (a .held) (start .pre .0) (a .at) (a .row) (start .pre .1) (told .enum-told4 .given .1) _ _ (c .loop-on .result) (c .loop-on .ensures)
 
 same-length : tie.Need-same-length
 same-length c = search needs

@@ -19,10 +19,11 @@ returns c =
     let x = exprAt (rowsOf (a .table .now)) (a .row .p) in
     let v = evaluated .evaluate .result in
     let e = evaluated .evaluate .ensures in
-    let w = a .words .now in (
-      λ h. rw (level-found w (a .held .marks) x v e) at (c .open-branch .ensures),
-      λ h. found-holds w (a .held .marks) x v e (c .before .before .before .if1 .taken) h,
-    )
+    let w = a .words .now in
+    record {
+      then = λ h. rw (level-found w (a .held .marks) x v e) at (c .open-branch .ensures);
+      otherwise = λ h. found-holds w (a .held .marks) x v e (c .before .before .before .if1 .taken) h;
+    }
 
 open-branch-requires-2 : tie.Need-open-branch-requires-2
 open-branch-requires-2 c κs = search needs
@@ -34,10 +35,11 @@ returns-2 c =
     let x = exprAt (rowsOf (a .table .now)) (a .row .p) in
     let v = evaluated .evaluate .result in
     let e = evaluated .evaluate .ensures in
-    let w = a .words .now in (
-      λ h. found-fails w (a .held .marks) x v e (c .before .before .before .if1 .left) h,
-      λ h. rw (level-found w (a .held .marks) x v e) at (c .open-branch2 .ensures),
-    )
+    let w = a .words .now in
+    record {
+      then = λ h. found-fails w (a .held .marks) x v e (c .before .before .before .if1 .left) h;
+      otherwise = λ h. rw (level-found w (a .held .marks) x v e) at (c .open-branch2 .ensures);
+    }
 
 pub branch-spec : {M : Type 1} → statement M
 branch-spec =

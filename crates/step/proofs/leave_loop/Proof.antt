@@ -21,7 +21,7 @@ returns : tie.Need-returns
 returns c =
     let start = c .before .before .before in
     let a = start .args in
-    opened-leave (rowsOf (a .table .now)) (a .entries .now) (a .pile .now) (a .held) (a .level) _ _ (c .push-unrun .result) (c .push-unrun .ensures .0) (c .push-unrun .ensures .1) (start .pre .0)
+    opened-leave (rowsOf (a .table .now)) (a .entries .now) (a .pile .now) (a .held) (a .level) _ _ (c .push-unrun .result) (c .push-unrun .ensures) (start .pre .0)
 
 pub leave-loop-spec : {M : Type 1} → statement M
 leave-loop-spec =

@@ -20,10 +20,11 @@ returns c =
     let x = exprAt (rowsOf (a .table .now)) (a .row .p) in
     let v = evaluated .evaluate .result in
     let e = evaluated .evaluate .ensures in
-    let w = a .words .now in (
-      λ h. rw (level-found w (a .held .marks) x v e) at (c .turn-loop .ensures),
-      λ h. found-holds w (a .held .marks) x v e (c .before .before .before .if1 .taken) h,
-    )
+    let w = a .words .now in
+    record {
+      turns = λ h. rw (level-found w (a .held .marks) x v e) at (c .turn-loop .ensures);
+      leaves = λ h. found-holds w (a .held .marks) x v e (c .before .before .before .if1 .taken) h;
+    }
 
 leave-loop-requires : tie.Need-leave-loop-requires
 leave-loop-requires c κs =
@@ -37,10 +38,11 @@ returns-2 c =
     let x = exprAt (rowsOf (a .table .now)) (a .row .p) in
     let v = evaluated .evaluate .result in
     let e = evaluated .evaluate .ensures in
-    let w = a .words .now in (
-      λ h. found-fails w (a .held .marks) x v e (c .before .before .before .if1 .left) h,
-      λ h. rw (level-found w (a .held .marks) x v e) at (c .leave-loop .ensures),
-    )
+    let w = a .words .now in
+    record {
+      turns = λ h. found-fails w (a .held .marks) x v e (c .before .before .before .if1 .left) h;
+      leaves = λ h. rw (level-found w (a .held .marks) x v e) at (c .leave-loop .ensures);
+    }
 
 pub loop-on-spec : {M : Type 1} → statement M
 loop-on-spec =

@@ -19,7 +19,7 @@ add-entries : tie.Need-add-entries
 add-entries c = search needs
 
 cast-entries : tie.Need-cast-entries
-cast-entries c = record { fits = omega (arith, c .before .pre .0 .sound .few) }
+cast-entries c = record { fits = omega (arith, c .before .pre .0 .sound .few, c .before .pre .1 .1) }
 
 mul-entries-2 : tie.Need-mul-entries-2
 mul-entries-2 c = search needs
@@ -37,7 +37,7 @@ returns : tie.Need-returns
 returns c =
     let start = c .before .before .before in
     let a = start .args in
-    opened-branch (rowsOf (a .table .now)) (a .entries .now) (a .pile .now) (a .held) (a .level) _ _ (c .push-unrun .result) (c .push-unrun .ensures .0) (c .push-unrun .ensures .1) (a .taken) (start .pre .0) (start .pre .1)
+    opened-branch (rowsOf (a .table .now)) (a .entries .now) (a .pile .now) (a .held) (a .level) _ _ (c .push-unrun .result) (c .push-unrun .ensures) (a .taken) (start .pre .0) (start .pre .1 .0)
 
 pub open-branch-spec : {M : Type 1} → statement M
 open-branch-spec =

@@ -1,12 +1,8 @@
 -- `step::push_none` meets its contract.
-use mathlib.Core.Path.{sym, ap, _∙_}
-use mathlib.Core.Bool.{_||_}
-use Prim.Native.Nat.{ℕ}
-use Rattle.rules.specs.Marks.{provisional}
-use Rattle.rules.specs.Running.{context, push}
-use Rattle.step.specs.Denoted.{setsOf}
-use native.Mathlib.Omega.{arith}
-use lib.ListN.{length-set}
+use mathlib.Core.Path.{sym, subst, _∙_}
+use Prim.Native.Nat.{ℕ, _+_}
+use lib.ListN.{set}
+use Rattle.step.specs.Turns.{Pushed}
 use Rattle.rules.proofs.MarkLaws.{none-zero}
 use Rattle.step.proofs.ArrayLaws.{pushed-law, unpushed-law}
 use borrow.Author.Needs.{needs}
@@ -27,16 +23,16 @@ add-result c = search needs
 
 returns : tie.Need-returns
 returns c =
-    let a = c .before .before .args in (
-      length-set (a .pile .now) (a .height) 0 ∙ c .before .before .pre .0,
-      pushed-law (a .pile .now) (a .height) (a .level) 0 (sym (c .if1 .taken) ∙ c .before .is-guarded .ensures) (omega arith)
-          ∙ ap (λ (x : ℕ). push (provisional (a .level) || context (setsOf (a .pile .now) (a .height))) x (setsOf (a .pile .now) (a .height))) (sym none-zero),
-    )
+    let start = c .before .before in
+    let a = start .args in
+    subst (λ (x : ℕ). Pushed (a .pile .now) (a .height) (a .level) x (set (a .pile .now) (a .height) 0) (a .height + 1)) (sym none-zero)
+    (pushed-law (a .pile .now) (a .height) (a .level) 0 (start .pre .0) (sym (c .if1 .taken) ∙ c .before .is-guarded .ensures) (start .pre .1))
 
 returns-2 : tie.Need-returns-2
 returns-2 c =
-    let a = c .before .before .args in
-    (c .before .before .pre .0, unpushed-law (a .pile .now) (a .height) (a .level) _ (sym (c .if1 .left) ∙ c .before .is-guarded .ensures))
+    let start = c .before .before in
+    let a = start .args in
+    unpushed-law (a .pile .now) (a .height) (a .level) _ (start .pre .0) (sym (c .if1 .left) ∙ c .before .is-guarded .ensures)
 
 pub push-none-spec : {M : Type 1} → statement M
 push-none-spec =

@@ -1,12 +1,8 @@
 -- `step::push_unrun` meets its contract.
-use mathlib.Core.Path.{sym, ap, _∙_}
-use mathlib.Core.Bool.{_||_}
-use Prim.Native.Nat.{ℕ}
-use Rattle.rules.specs.Marks.{provisional}
-use Rattle.rules.specs.Running.{context, push}
-use Rattle.step.specs.Denoted.{setsOf}
-use native.Mathlib.Omega.{arith}
-use lib.ListN.{length-set}
+use mathlib.Core.Path.{sym, subst, _∙_}
+use Prim.Native.Nat.{ℕ, _+_}
+use lib.ListN.{set}
+use Rattle.step.specs.Turns.{Pushed}
 use Rattle.step.proofs.ArrayLaws.{pushed-law, unpushed-law}
 use borrow.Author.Needs.{needs}
 use Rattle.step.proofs.push_unrun.Statement.{statement}
@@ -30,17 +26,17 @@ add-result c = search needs
 returns : tie.Need-returns
 returns c =
     let start = c .before .before .before .before in
-    let a = start .args in (
-      length-set (a .pile .now) (a .height) (c .may-assign .result) ∙ start .pre .2,
-      pushed-law (a .pile .now) (a .height) (a .level) (c .may-assign .result) (sym (c .before .if1 .taken) ∙ c .before .before .is-guarded .ensures) (omega arith)
-          ∙ ap (λ (x : ℕ). push (provisional (a .level) || context (setsOf (a .pile .now) (a .height))) x (setsOf (a .pile .now) (a .height))) (c .may-assign .ensures),
-    )
+    let a = start .args in
+    let set′ = set (a .pile .now) (a .height) (c .may-assign .result) in
+    subst (λ (x : ℕ). Pushed (a .pile .now) (a .height) (a .level) x set′ (a .height + 1)) (c .may-assign .ensures)
+    (pushed-law (a .pile .now) (a .height) (a .level) (c .may-assign .result) (start .pre .2)
+    (sym (c .before .if1 .taken) ∙ c .before .before .is-guarded .ensures) (start .pre .3))
 
 returns-2 : tie.Need-returns-2
 returns-2 c =
     let start = c .before .before .before in
     let a = start .args in
-    (start .pre .2, unpushed-law (a .pile .now) (a .height) (a .level) _ (sym (c .if1 .left) ∙ c .before .is-guarded .ensures))
+    unpushed-law (a .pile .now) (a .height) (a .level) _ (start .pre .2) (sym (c .if1 .left) ∙ c .before .is-guarded .ensures)
 
 pub push-unrun-spec : {M : Type 1} → statement M
 push-unrun-spec =

@@ -4,7 +4,8 @@ use Prim.Native.Nat.{_-_, _<_}
 use mathlib.Core.Path.{refl}
 use lib.ListN.{length, getD}
 use Rattle.rules.specs.Rows.{rowsOf}
-use Rattle.step.proofs.ArmLaws.{few-entries, few-sets, arm-close, found-next, holds-apart, turned-apart}
+use Rattle.step.specs.Denoted.{arrays}
+use Rattle.step.proofs.ArmLaws.{few-entries, few-sets, arm-close, found-next, holds-apart, went-apart, unwent-apart}
 use borrow.Author.Needs.{needs}
 use Rattle.step.proofs.step.Statement.{statement}
 use Rattle.step.proofs.step.Tie as tie
@@ -34,7 +35,7 @@ returns : tie.Need-returns
 returns c =
     let start = c .before .before .before .before .before .before in
     let a = start .args in
-    arm-close (rowsOf (a .table .now)) (a .words .now) (a .entries .now) (a .pile .now) (a .trace .now) (a .held) (start .pre .0) (start .pre .1) (c .before .before .if1 .taken) (c .closed-held .result) (c .closed-held .ensures .0) (c .closed-held .ensures .1)
+    arm-close (rowsOf (a .table .now)) (a .words .now) (a .entries .now) (a .pile .now) (a .trace .now) (a .held) (start .pre .0) (start .pre .1) (c .before .before .if1 .taken) (c .closed-held .result) (c .closed-held .ensures)
 
 -- the entry is no close, so it names a row of the table
 inside :
@@ -59,25 +60,61 @@ take-apart-requires : tie.Need-take-apart-requires
 take-apart-requires c κs =
     let start = c .before .before .before .before .before .before in
     let a = start .args in
-    (start .pre .0 .sound, start .pre .0 .entries-long, start .pre .0 .named, start .pre .0 .bounds .roomy, found-next (rowsOf (a .table .now)) (a .words .now) (a .entries .now) (a .pile .now) (a .trace .now) (a .held) (start .pre .0) (start .pre .1) _ refl (c .before .before .if1 .left) .1 (c .before .read-row .result) (c .before .read-row .ensures))
+    record {
+      sound = start .pre .0 .sound;
+      entries-long = start .pre .0 .entries-long;
+      named = start .pre .0 .named;
+      roomy = start .pre .0 .bounds .roomy;
+      found = found-next (rowsOf (a .table .now)) (a .words .now) (a .entries .now) (a .pile .now) (a .trace .now) (a .held) (start .pre .0) (start .pre .1) _ refl (c .before .before .if1 .left) .1 (c .before .read-row .result) (c .before .read-row .ensures);
+    }
 
 apply-requires : tie.Need-apply-requires
 apply-requires c κs =
     let start = c .before .before .before .before .before .before .before .before .before .before .before .before in
     let a = start .args in
     let apart = c .before .before .before .before .before in
-    (holds-apart (rowsOf (a .table .now)) (a .words .now) (a .entries .now) (a .pile .now) (a .trace .now) (a .held) (start .pre .0) _ (apart .take-apart .result .pending) (apart .take-apart .ensures .0), apart .take-apart .ensures .1, apart .take-apart .ensures .2)
+    (holds-apart (rowsOf (a .table .now)) (a .words .now) (a .entries .now) (a .pile .now) (a .trace .now) (a .held) (start .pre .0) _ (apart .take-apart .result .pending) (apart .take-apart .ensures .apart), apart .take-apart .ensures .found, apart .take-apart .ensures .other)
+
+enum-told : tie.Need-enum-told
+enum-told c = search needs
 
 same-length : tie.Need-same-length
 same-length c = search needs
 
 returns-2 : tie.Need-returns-2
 returns-2 c =
-    let start = c .before .before .before .before .before .before .before .before .before .before .before .before .before .before .before in
-    let a = start .args in
-    let applied = c .before .before in
+    let match = c .before in
+    let applied = match .before .before .before in
     let apart = applied .before .before .before .before .before .before in
-    turned-apart (rowsOf (a .table .now)) (a .words .now) (a .entries .now) (a .pile .now) (a .trace .now) (a .held) (start .pre .0) _ (apart .take-apart .result .pending) (apart .take-apart .ensures .0) _ _ _ _ (applied .apply .result) (applied .apply .ensures)
+    let start = apart .before .before .before .before .before .before .before in
+    let a = start .args in
+    went-apart (rowsOf (a .table .now)) (a .words .now) (a .entries .now) (a .pile .now) (a .trace .now) (a .held) (start .pre .0) _ (apart .take-apart .result .pending) (apart .take-apart .ensures .apart) (applied .apply .result) (match .match .keys1) (arrays _ _ _ _) (applied .apply .ensures)
+
+sub-entries : tie.Need-sub-entries
+sub-entries c = search needs
+
+mul-entries : tie.Need-mul-entries
+mul-entries c =
+    let start = c .before .before .before .before .before .before .before .before .before .before .before .before .before .before .before .before in
+    let a = start .args in
+    omega (arith, few-entries (rowsOf (a .table .now)) (a .words .now) (a .entries .now) (a .pile .now) (a .trace .now) (a .held) (start .pre .0))
+
+element-write-entries : tie.Need-element-write-entries
+element-write-entries c =
+    let start = c .before .before .before .before .before .before .before .before .before .before .before .before .before .before .before .before in
+    let a = start .args in
+    omega (arith, few-entries (rowsOf (a .table .now)) (a .words .now) (a .entries .now) (a .pile .now) (a .trace .now) (a .held) (start .pre .0))
+
+same-length-2 : tie.Need-same-length-2
+same-length-2 c = search needs
+
+returns-3 : tie.Need-returns-3
+returns-3 c =
+    let applied = c .before .before .before in
+    let apart = applied .before .before .before .before .before .before in
+    let start = apart .before .before .before .before .before .before .before in
+    let a = start .args in
+    unwent-apart (rowsOf (a .table .now)) (a .words .now) (a .entries .now) (a .pile .now) (a .trace .now) (a .held) (start .pre .0) _ (apart .take-apart .result .pending) (apart .take-apart .ensures .apart) _ refl (applied .apply .result) (c .match .keys2) (arrays _ _ _ _) (applied .apply .ensures)
 
 pub step-spec : {M : Type 1} → statement M
 step-spec =
@@ -93,5 +130,11 @@ step-spec =
     read-row-requires
     take-apart-requires
     apply-requires
+    enum-told
     same-length
-    returns-2)
+    returns-2
+    sub-entries
+    mul-entries
+    element-write-entries
+    same-length-2
+    returns-3)

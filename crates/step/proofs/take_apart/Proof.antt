@@ -20,7 +20,7 @@ loop-holds : tie.Need-loop-holds Inv-loop μ-loop
 loop-holds c =
     let start = c .before in
     let a = start .args in
-    (apart-none (rowsOf (a .table .now)) (a .entries .now) (a .pending) (start .pre .4 .some) (start .pre .2) (start .pre .1), start .pre .4)
+    (apart-none (rowsOf (a .table .now)) (a .entries .now) (a .pending) (start .pre .found .some) (start .pre .named) (start .pre .entries-long), start .pre .found)
 
 is-sequence-requires : tie.Need-is-sequence-requires Inv-loop μ-loop
 is-sequence-requires c κs =
@@ -35,7 +35,7 @@ more :
 more c =
     let loop = c .before .before in
     let start = loop .before .before in
-    apart-more _ (start .pre .0) _ _ _ _ _ _ (start .pre .3) (loop .loop .inv .0) (loop .loop .inv .1) (c .before .is-sequence .ensures .0 (c .if1 .taken))
+    apart-more _ (start .pre .sound) _ _ _ _ _ _ (start .pre .roomy) (loop .loop .inv .0) (loop .loop .inv .1) (c .before .is-sequence .ensures .0 (c .if1 .taken))
 
 -- both of its statements' rows are in the table
 small :
@@ -43,7 +43,7 @@ small :
     → (c .before .before .loop .here .p < mostRows) × (c .before .before .loop .here .q < mostRows)
 small c =
     let loop = c .before .before in
-    let few = loop .before .before .pre .0 .few in
+    let few = loop .before .before .pre .sound .few in
     (omega (arith, more c .first, loop .loop .inv .1 .within, few), omega (arith, more c .second, few))
 
 add-entries : tie.Need-add-entries Inv-loop μ-loop
@@ -91,7 +91,7 @@ loop-again c =
 returns : tie.Need-returns Inv-loop μ-loop
 returns c =
     let loop = c .before .before in
-    (loop .loop .inv .0, loop .loop .inv .1, c .before .is-sequence .ensures .1 (c .if1 .left))
+    record { apart = loop .loop .inv .0; found = loop .loop .inv .1; other = c .before .is-sequence .ensures .1 (c .if1 .left) }
 
 pub take-apart-spec : {M : Type 1} → statement M
 take-apart-spec =

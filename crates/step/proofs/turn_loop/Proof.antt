@@ -16,7 +16,7 @@ add-entries : tie.Need-add-entries
 add-entries c = search needs
 
 cast-entries : tie.Need-cast-entries
-cast-entries c = record { fits = omega (arith, c .before .pre .0 .sound .few) }
+cast-entries c = record { fits = omega (arith, c .before .pre .0 .sound .few, c .before .pre .1 .1) }
 
 add-entries-2 : tie.Need-add-entries-2
 add-entries-2 c = search needs
@@ -37,7 +37,7 @@ returns : tie.Need-returns
 returns c =
     let start = c .before .before .before in
     let a = start .args in
-    opened-turn (rowsOf (a .table .now)) (a .entries .now) (a .pile .now) (a .held) (a .level) _ _ (c .push-none .result) (c .push-none .ensures .0) (c .push-none .ensures .1) (a .body) (start .pre .0) (start .pre .1)
+    opened-turn (rowsOf (a .table .now)) (a .entries .now) (a .pile .now) (a .held) (a .level) _ _ (c .push-none .result) (c .push-none .ensures) (a .body) (start .pre .0) (start .pre .1 .0)
 
 pub turn-loop-spec : {M : Type 1} → statement M
 turn-loop-spec =
