@@ -6,6 +6,7 @@ use Rattle.rules.specs.Limits.{mostNesting}
 use Rattle.rules.specs.Rows.{rowsOf}
 use Rattle.rules.specs.Bounds.{mostPending}
 use Rattle.rules.proofs.JudgeLaws.{accepted-sound, accepted-count}
+use Rattle.monitor.specs.Going.{lent}
 use Rattle.monitor.proofs.CallLaws.{start-holds, ran-answer, ran-told}
 use borrow.Author.Needs.{needs}
 use Rattle.monitor.proofs.run_accepted.Statement.{statement}
@@ -13,7 +14,7 @@ use Rattle.monitor.proofs.run_accepted.Tie as tie
 
 cast-entries : tie.Need-cast-entries
 cast-entries c =
-    let start = c .before .before .before in
+    let start = c .before .before in
     let a = start .args in
     record { fits = omega (arith, accepted-count (a .table .now) (start .pre .0), accepted-sound (a .table .now) (start .pre .0) .few) }
 
@@ -22,7 +23,7 @@ array-write-entries c = search needs
 
 go-on-requires : tie.Need-go-on-requires
 go-on-requires c κs =
-    let start = c .before .before .before .before .before .before .before in
+    let start = c .before .before .before .before .before in
     let a = start .args in
     start-holds (a .table .now) (a .memory .words) (a .marks) (start .pre .0) (replicate mostPending 0) (replicate mostNesting 0) (a .trace .now) refl _ refl (search needs) (start .fits .marks .fits) refl
 
@@ -34,11 +35,11 @@ same-length c = search needs
 
 returns : tie.Need-returns
 returns c =
-    let start = c .before .before .before .before .before .before .before .before .before .before .before in
+    let went = c .before .before .before .before in
+    let start = went .before .before .before .before .before .before in
     let a = start .args in
-    let went = c .before .before .before .before .go-on in
-    ran-told (lent (a .table .now) (a .memory) (a .marks) (a .budget) (a .trace .now)) _ _ _ _ _ _ (went .result) (went .ensures)
-    (ran-answer (a .table .now) (a .memory .words) (a .marks) (start .pre .0) (replicate mostPending 0) (replicate mostNesting 0) (a .trace .now) refl _ refl (start .pre .1) (a .budget) _ _ _ (went .result) (went .ensures))
+    ran-told (lent (a .table .now) (a .memory) (a .marks) (a .budget) (a .trace .now)) _ _ _ _ _ _ (went .go-on .result) (went .go-on .ensures)
+    (ran-answer (a .table .now) (a .memory .words) (a .marks) (start .pre .0) (replicate mostPending 0) (replicate mostNesting 0) (a .trace .now) refl _ refl (start .pre .1) (a .budget) _ _ _ (went .go-on .result) (went .go-on .ensures))
     _ refl
 
 pub run-accepted-spec : {M : Type 1} → statement M
