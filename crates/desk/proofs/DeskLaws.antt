@@ -8,7 +8,7 @@ use lib.Seq.{take-at, length-take-le}
 use Rattle.rules.specs.declared.Answer.{Answer}
 use Rattle.rules.specs.Limits.{width, rowWords, recordWords, mostTraceWords}
 use Rattle.rules.specs.Running.{Record}
-use Rattle.rules.specs.Answers.{Whole, answer, toldOf, telling, traceWordsOf, traceAfter}
+use Rattle.rules.specs.Answers.{Whole, Inputs, inputs, answer, toldOf, telling, traceWordsOf, traceAfter, RunAnswers}
 use Rattle.rules.proofs.AnswerLaws.{trace-words-none, trace-words-cons, trace-after-law, told-said, told-steps, told-records, told-memory, told-marks}
 use Rattle.job.specs.Limits.{tableWords, mostRoom}
 use Rattle.job.specs.declared.Read.{Read}
@@ -36,7 +36,19 @@ records-back (r ∷ records) rest =
 
 -- ---- the report of a run
 
-module _ (a : Answer) (w : Whole) (told : toldOf a ≡ telling w) (before trace : List ℕ) (left : trace ≡ traceAfter (w .records) before) where
+module _ (a : Answer) (i : Inputs) (trace : List ℕ) (answered : RunAnswers i a trace) where
+  abbrev w : Whole
+  w = answer i
+
+  abbrev before : List ℕ
+  before = i .trace
+
+  told : toldOf a ≡ telling (answer i)
+  told = answered .told
+
+  left : trace ≡ traceAfter (answer i .records) (i .trace)
+  left = answered .trace-after
+
   records-told : recordsOf (a .records) trace ≡ w .records
   records-told =
       ap₂ recordsOf (told-records a w told) (left ∙ trace-after-law (w .records) before) ∙ records-back (w .records) _
@@ -74,13 +86,16 @@ trace = replicate mostTraceWords 0
 pub room-lent : (room : ℕ) → room ≤ mostRoom → length (take (recordWords * room) trace) ≡ recordWords * room
 room-lent room h = length-take-le (recordWords * room) trace (omega (arith, length-replicate {A = ℕ} mostTraceWords 0))
 
+pub room-same : (room : ℕ) → room ≤ mostRoom → length (take (recordWords * room) trace) ≡ length (replicate (recordWords * room) 0)
+room-same room h = room-lent room h ∙ sym (length-replicate {A = ℕ} (recordWords * room) 0)
+
 -- ---- what the reader hands on
 
 -- the parts of a job that was read: its room and its table are there, and its run's report is the text's
 pub record Handed (text : List ℕ) (r : Reading) (budget room marks rows : ℕ) : Type 0 where
   pub within : room ≤ mostRoom
   pub words : rowWords * rows ≤ length (r .table)
-  pub reported : report (answer (take (rowWords * rows) (r .table)) (r .memory .words) marks budget (recordWords * room)) ≡ jobReport text
+  pub reported : report (answer (inputs (take (rowWords * rows) (r .table)) (r .memory .words) marks budget (replicate (recordWords * room) 0))) ≡ jobReport text
 
 module _ (text : List ℕ) (r : Reading) (read : r ≡ reading (readJob text)) where
   pub handed-on : (budget room marks rows : ℕ) → r .read ≡ Read.Job budget room marks rows → Handed text r budget room marks rows
@@ -107,9 +122,9 @@ module _ (text : List ℕ) (r : Reading) (read : r ≡ reading (readJob text)) w
           record {
             within = omega (arith, fits .room);
             words = omega (arith, ap length table, length-append (job .table) (replicate (tableWords - length (job .table)) 0));
-            reported = ap₂ (λ (ws ms : List ℕ). report (answer ws ms marks budget (recordWords * room))) part memory
-                ∙ ap₂ (λ (k l : ℕ). report (answer (job .table) (filled width (job .inputs)) k l (recordWords * room))) m b
-                ∙ ap (λ (k : ℕ). report (answer (job .table) (filled width (job .inputs)) (job .marks) (job .budget) (recordWords * k))) o
+            reported = ap₂ (λ (ws ms : List ℕ). report (answer (inputs ws ms marks budget (replicate (recordWords * room) 0)))) part memory
+                ∙ ap₂ (λ (k l : ℕ). report (answer (inputs (job .table) (filled width (job .inputs)) k l (replicate (recordWords * room) 0)))) m b
+                ∙ ap (λ (k : ℕ). report (answer (inputs (job .table) (filled width (job .inputs)) (job .marks) (job .budget) (replicate (recordWords * k) 0)))) o
                 ∙ ap toldReport e;
           }
 

@@ -2,8 +2,9 @@
 -- rules, and the answer is reported.
 use Prim.Native.Nat.{ℕ, _*_}
 use mathlib.Core.List.{List}
+use lib.ListN.{replicate}
 use Rattle.rules.specs.Limits.{width, recordWords}
-use Rattle.rules.specs.Answers.{Whole, answer}
+use Rattle.rules.specs.Answers.{Whole, inputs, answer}
 use Rattle.job.specs.Limits.{mostRoom}
 use Rattle.job.specs.Jobs.{Job, Told, told, untold, readJob}
 use Rattle.job.specs.Read.{filled}
@@ -17,7 +18,8 @@ mostReport = mostRun mostRoom
 -- "that many `in=` lines for v0 onward (others 0)"; the trace has the words of as many records as there is room for
 unfoldable pub jobAnswer : Job → Whole
 jobAnswer job =
-    answer (job .table) (filled width (job .inputs)) (job .marks) (job .budget) (recordWords * job .room)
+    answer
+    (inputs (job .table) (filled width (job .inputs)) (job .marks) (job .budget) (replicate (recordWords * job .room) 0))
 
 -- "Then 1 to 5 apply": the run itself refuses a table, and its report is the refusal's.
 unfoldable pub toldReport : Told → List ℕ

@@ -10,9 +10,9 @@ use rules::Memory;
 use rules::ROW_WORDS;
 ghost use mathlib.Core.Path.{_≡_};
 ghost use Prim.Native.Nat.{_*_, _≤_};
-ghost use lib.ListN.{length};
+ghost use lib.ListN.{length, replicate};
 ghost use Rattle.rules.specs.Limits.{recordWords, mostTraceWords};
-ghost use Rattle.rules.specs.Answers.{answer};
+ghost use Rattle.rules.specs.Answers.{inputs, answer};
 ghost use Rattle.job.specs.Limits.{mostRoom};
 ghost use Rattle.report.specs.Reports.{report};
 ghost use Rattle.report.specs.Written.{placedIn};
@@ -36,7 +36,7 @@ fn report_traced(
     ensures { λ r. ⌜
         (record { wrote = r; out = now (out .exit) })
         ≡ placedIn mostReport
-        (report (answer (now (table .entry)) (memory .words) marks budget (length (now (trace .entry)))))
+        (report (answer (inputs (now (table .entry)) (memory .words) marks budget (now (trace .entry)))))
         (now (out .entry)) ⌝ }
 {
     let answer = monitor::run(table, memory, marks, budget, trace);
@@ -56,7 +56,7 @@ fn report_run(
     ensures { λ r. ⌜
         (record { wrote = r; out = now (out .exit) })
         ≡ placedIn mostReport
-        (report (answer (now (table .entry)) (memory .words) marks budget (recordWords * room)))
+        (report (answer (inputs (now (table .entry)) (memory .words) marks budget (replicate (recordWords * room) 0))))
         (now (out .entry)) ⌝ }
 {
     let mut trace = [0u32; TRACE_WORDS];

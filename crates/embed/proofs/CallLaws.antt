@@ -12,11 +12,10 @@ use borrow.Author.Tests.{lt-ltb, le-ltb}
 use Rattle.rules.specs.declared.Advice.{Advice}
 use Rattle.rules.specs.declared.Answer.{Answer}
 use Rattle.rules.specs.Limits.{width}
-use Rattle.rules.specs.Answers.{Said, Whole, Advised, judgement, advice, answer, traceAfter, saidOfRun, saidOfCheck, toldOf, telling}
+use Rattle.rules.specs.Answers.{Said, Whole, Inputs, Advised, advisedOf, judgement, advice, answer, traceAfter, saidOfRun, saidOfCheck, toldOf, telling, RunAnswers}
 use Rattle.rules.proofs.AnswerLaws.{told-said, told-steps, told-records, told-memory, told-marks}
-use Rattle.levels.specs.Told.{advisedOf}
 use Rattle.embed.specs.declared.Numbers.{Numbers}
-use Rattle.embed.specs.Calls.{numbersOf, saidWords, runWords, laid, answered, answerTooShort, memoryTooShort, judgeLength, runLength, callBy, judgeCall, checkWords, checkLength, checkCall, ranCall, runCallBy, runCall}
+use Rattle.embed.specs.Calls.{numbersOf, saidWords, runWords, laid, answered, answerTooShort, memoryTooShort, judgeLength, runLength, callBy, judgeCall, checkWords, checkLength, checkCall, ranCall, runCallBy, runCall, firstWords}
 
 -- words laid over a buffer, and more stored after them
 pub laid-more : (words more buffer : List ℕ) → length words + length more ≤ length buffer
@@ -72,40 +71,35 @@ module _ (table buffer : List ℕ) where
 
 -- ---- the run
 
-module _ (table memory : List ℕ) (marks budget : ℕ) (trace buffer : List ℕ) where
+module _ (i : Inputs) (buffer : List ℕ) where
   pub run-short-answer : length buffer < runLength
-      → runCall table memory marks budget trace buffer ≡ record { status = answerTooShort; memory = memory; trace = trace; answer = buffer }
-  run-short-answer h =
-      ap (λ (b : Bool). runCallBy b (ltb (length memory) width) table memory marks budget trace buffer) (lt-ltb (length buffer) runLength h)
+      → runCall i buffer ≡ record { status = answerTooShort; memory = i .memory; trace = i .trace; answer = buffer }
+  run-short-answer h = ap (λ (b : Bool). runCallBy b (ltb (length (i .memory)) width) i buffer) (lt-ltb (length buffer) runLength h)
 
-  pub run-short-memory : runLength ≤ length buffer → length memory < width
-      → runCall table memory marks budget trace buffer ≡ record { status = memoryTooShort; memory = memory; trace = trace; answer = buffer }
+  pub run-short-memory : runLength ≤ length buffer → length (i .memory) < width
+      → runCall i buffer ≡ record { status = memoryTooShort; memory = i .memory; trace = i .trace; answer = buffer }
   run-short-memory h m =
-      ap₂ (λ (a b : Bool). runCallBy a b table memory marks budget trace buffer) (le-ltb (length buffer) runLength h) (lt-ltb (length memory) width m)
+      ap₂ (λ (a b : Bool). runCallBy a b i buffer) (le-ltb (length buffer) runLength h) (lt-ltb (length (i .memory)) width m)
 
-  -- a run that was given these first words of the memory has answered: its memory, its trace and its words
-  pub run-answered : (given : List ℕ) (a : Answer) (trace′ : List ℕ)
-      → runLength ≤ length buffer → width ≤ length memory → length (a .memory .words) ≡ width → given ≡ take width memory
-      → toldOf a ≡ telling (answer table given marks budget (length trace))
-      → trace′ ≡ traceAfter (answer table given marks budget (length trace) .records) trace
-      → runCall table memory marks budget trace buffer ≡ record {
+  -- a run that was given the first words of the memory has answered: its memory, its trace and its words
+  pub run-answered : (a : Answer) (trace′ : List ℕ)
+      → runLength ≤ length buffer → width ≤ length (i .memory) → length (a .memory .words) ≡ width → RunAnswers (firstWords i) a trace′
+      → runCall i buffer ≡ record {
         status = answered;
-        memory = take width (a .memory .words) ++ drop width memory;
+        memory = take width (a .memory .words) ++ drop width (i .memory);
         trace = trace′;
         answer = laid (saidWords (numbersOf (saidOfRun (a .ended))) ++ a .steps ∷ a .records ∷ a .marks ∷ []) buffer;
       }
-  run-answered given a trace′ h m l g told t =
-      let w = answer table given marks budget (length trace) in
-      ap₂ (λ (x y : Bool). runCallBy x y table memory marks budget trace buffer) (le-ltb (length buffer) runLength h) (le-ltb (length memory) width m)
-      ∙ ap (λ (k : List ℕ). ranCall (answer table k marks budget (length trace)) memory trace buffer) (sym g)
-      ∙ ranCall-told w told
-      ∙ ap (λ (k : List ℕ). record { status = answered; memory = take width (a .memory .words) ++ drop width memory; trace = k; answer = laid (saidWords (numbersOf (saidOfRun (a .ended))) ++ a .steps ∷ a .records ∷ a .marks ∷ []) buffer }) (sym t)
+  run-answered a trace′ h m l given =
+      ap₂ (λ (x y : Bool). runCallBy x y i buffer) (le-ltb (length buffer) runLength h) (le-ltb (length (i .memory)) width m)
+      ∙ ranCall-told (answer (firstWords i)) (given .told)
+      ∙ ap (λ (k : List ℕ). record { status = answered; memory = take width (a .memory .words) ++ drop width (i .memory); trace = k; answer = laid (saidWords (numbersOf (saidOfRun (a .ended))) ++ a .steps ∷ a .records ∷ a .marks ∷ []) buffer }) (sym (given .trace-after))
     where
       ranCall-told : (w : Whole) → toldOf a ≡ telling w
-          → ranCall w memory trace buffer ≡ record {
+          → ranCall w i buffer ≡ record {
             status = answered;
-            memory = take width (a .memory .words) ++ drop width memory;
-            trace = traceAfter (w .records) trace;
+            memory = take width (a .memory .words) ++ drop width (i .memory);
+            trace = traceAfter (w .records) (i .trace);
             answer = laid (saidWords (numbersOf (saidOfRun (a .ended))) ++ a .steps ∷ a .records ∷ a .marks ∷ []) buffer;
           }
       ranCall-told w told =
@@ -114,9 +108,9 @@ module _ (table memory : List ℕ) (marks budget : ℕ) (trace buffer : List ℕ
           let r = sym (told-records a w told) in
           let k = sym (told-marks a w told) in
           let words = sym (told-memory a w told) ∙ sym (take-all width (a .memory .words) (omega arith)) in
-          λ i. record {
+          λ j. record {
             status = answered;
-            memory = words i ++ drop width memory;
-            trace = traceAfter (w .records) trace;
-            answer = laid (saidWords (numbersOf (s i)) ++ n i ∷ r i ∷ k i ∷ []) buffer;
+            memory = words j ++ drop width (i .memory);
+            trace = traceAfter (w .records) (i .trace);
+            answer = laid (saidWords (numbersOf (s j)) ++ n j ∷ r j ∷ k j ∷ []) buffer;
           }

@@ -5,7 +5,7 @@ use mathlib.Core.List.{List, [], _∷_, _++_}
 use lib.Dec.{ltb}
 use lib.ListN.{length, take, drop}
 use Rattle.rules.specs.Limits.{width}
-use Rattle.rules.specs.Answers.{Said, accepted, refused, verdict, pass, fail, Whole, Advised, judgement, advice, answer, traceAfter}
+use Rattle.rules.specs.Answers.{Said, accepted, refused, verdict, pass, fail, Whole, Inputs, inputs, Advised, judgement, advice, answer, traceAfter}
 use Rattle.embed.specs.declared.Numbers.{Numbers}
 
 -- The first three words of every answer: the refusal's number or 0; the verdict, which is 1 for a check that fails; the place,
@@ -78,22 +78,25 @@ pub record RunCall : Type 0 where
   pub trace : List ℕ
   pub answer : List ℕ
 
+-- the run is given the first words of the memory that is lent
+abbrev pub firstWords : Inputs → Inputs
+firstWords i = inputs (i .words) (take width (i .memory)) (i .marks) (i .budget) (i .trace)
+
 -- a run that gave this answer: its memory, its records and its words are laid over what was lent
-abbrev pub ranCall : Whole → List ℕ → List ℕ → List ℕ → RunCall
-ranCall whole memory trace buffer = record {
+abbrev pub ranCall : Whole → Inputs → List ℕ → RunCall
+ranCall whole i buffer = record {
   status = answered;
-  memory = whole .memory ++ drop width memory;
-  trace = traceAfter (whole .records) trace;
+  memory = whole .memory ++ drop width (i .memory);
+  trace = traceAfter (whole .records) (i .trace);
   answer = laid (runWords whole) buffer;
 }
 
 -- the first Bool says that the answer's buffer is too short, the second that the memory is
-abbrev pub runCallBy : Bool → Bool → List ℕ → List ℕ → ℕ → ℕ → List ℕ → List ℕ → RunCall
-runCallBy true short table memory marks budget trace buffer = record { status = answerTooShort; memory = memory; trace = trace; answer = buffer }
-runCallBy false true table memory marks budget trace buffer = record { status = memoryTooShort; memory = memory; trace = trace; answer = buffer }
-runCallBy false false table memory marks budget trace buffer =
-    ranCall (answer table (take width memory) marks budget (length trace)) memory trace buffer
+abbrev pub runCallBy : Bool → Bool → Inputs → List ℕ → RunCall
+runCallBy true short i buffer = record { status = answerTooShort; memory = i .memory; trace = i .trace; answer = buffer }
+runCallBy false true i buffer = record { status = memoryTooShort; memory = i .memory; trace = i .trace; answer = buffer }
+runCallBy false false i buffer = ranCall (answer (firstWords i)) i buffer
 
-abbrev pub runCall : List ℕ → List ℕ → ℕ → ℕ → List ℕ → List ℕ → RunCall
-runCall table memory marks budget trace buffer =
-    runCallBy (ltb (length buffer) runLength) (ltb (length memory) width) table memory marks budget trace buffer
+-- the inputs' memory is as it is lent, of any length
+abbrev pub runCall : Inputs → List ℕ → RunCall
+runCall i buffer = runCallBy (ltb (length buffer) runLength) (ltb (length (i .memory)) width) i buffer

@@ -3,6 +3,7 @@
 use rules::Checked;
 use rules::Ended;
 use rules::Judged;
+use rules::Marks;
 use rules::Memory;
 use rules::VARIABLES;
 ghost use mathlib.Core.Path.{_≡_};
@@ -10,7 +11,7 @@ ghost use mathlib.Core.List.{[], _∷_, _++_};
 ghost use Prim.Native.Nat.{_≤_};
 ghost use lib.ListN.{length, take, drop};
 ghost use Rattle.rules.specs.Limits.{width};
-ghost use Rattle.rules.specs.Answers.{saidOfJudge, saidOfRun, saidOfCheck};
+ghost use Rattle.rules.specs.Answers.{inputs, saidOfJudge, saidOfRun, saidOfCheck};
 ghost use Rattle.embed.specs.Calls.{numbersOf, saidWords, laid, judgeLength, checkLength, runLength, judgeCall, checkCall, runCall};
 
 // What a call returns: that it has answered, or which buffer was too short.
@@ -101,7 +102,7 @@ fn put_numbers(answer: &mut [u32], numbers: Numbers)
 }
 
 // Lays a check's numbers and marks over the first words of the answer.
-fn put_check(answer: &mut [u32], numbers: Numbers, marks: u32)
+fn put_check(answer: &mut [u32], numbers: Numbers, marks: Marks)
     requires { ⌜ checkLength ≤ length (now answer) ⌝ }
     ensures { λ _. ⌜ now (answer .exit) ≡ laid (saidWords numbers ++ marks ∷ []) (now (answer .entry)) ⌝ }
 {
@@ -110,7 +111,7 @@ fn put_check(answer: &mut [u32], numbers: Numbers, marks: u32)
 }
 
 // Lays a run's numbers, steps, records and marks over the first words of the answer.
-fn put_run(answer: &mut [u32], numbers: Numbers, steps: u32, records: u32, marks: u32)
+fn put_run(answer: &mut [u32], numbers: Numbers, steps: u32, records: u32, marks: Marks)
     requires { ⌜ runLength ≤ length (now answer) ⌝ }
     ensures { λ _. ⌜ now (answer .exit) ≡ laid (saidWords numbers ++ steps ∷ records ∷ marks ∷ []) (now (answer .entry)) ⌝ }
 {
@@ -135,7 +136,9 @@ fn copy_words(from: &[u32], to: &mut [u32])
 // The judge. The answer's three words are the refusal's number or 0, 0, and the refusal's row.
 #[no_mangle]
 pub extern "C" fn buzorinde_judge(table: &[u32], answer: &mut [u32]) -> u32
-    ensures { λ r. ⌜ judgeCall (now (table .entry)) (now (answer .entry)) ≡ record { status = r; answer = now (answer .exit) } ⌝ }
+    ensures { λ r. ⌜
+        judgeCall (now (table .entry)) (now (answer .entry))
+        ≡ record { status = r; answer = now (answer .exit) } ⌝ }
 {
     if answer.len() < JUDGE_WORDS {
         return ANSWER_TOO_SHORT;
@@ -148,8 +151,10 @@ pub extern "C" fn buzorinde_judge(table: &[u32], answer: &mut [u32]) -> u32
 // The level check. The answer's four words are the refusal's number or 0, 1 for a check that fails and else 0, the lowest
 // failing row or the refusal's row, and the final marks.
 #[no_mangle]
-pub extern "C" fn buzorinde_check(table: &[u32], marks: u32, answer: &mut [u32]) -> u32
-    ensures { λ r. ⌜ checkCall (now (table .entry)) marks (now (answer .entry)) ≡ record { status = r; answer = now (answer .exit) } ⌝ }
+pub extern "C" fn buzorinde_check(table: &[u32], marks: Marks, answer: &mut [u32]) -> u32
+    ensures { λ r. ⌜
+        checkCall (now (table .entry)) marks (now (answer .entry))
+        ≡ record { status = r; answer = now (answer .exit) } ⌝ }
 {
     if answer.len() < CHECK_WORDS {
         return ANSWER_TOO_SHORT;
@@ -166,12 +171,14 @@ pub extern "C" fn buzorinde_check(table: &[u32], marks: u32, answer: &mut [u32])
 pub extern "C" fn buzorinde_run(
     table: &[u32],
     memory: &mut [u32],
-    marks: u32,
+    marks: Marks,
     budget: u32,
     trace: &mut [u32],
     answer: &mut [u32],
 ) -> u32
-    ensures { λ r. ⌜ runCall (now (table .entry)) (now (memory .entry)) marks budget (now (trace .entry)) (now (answer .entry)) ≡ record { status = r; memory = now (memory .exit); trace = now (trace .exit); answer = now (answer .exit) } ⌝ }
+    ensures { λ r. ⌜
+        runCall (inputs (now (table .entry)) (now (memory .entry)) marks budget (now (trace .entry))) (now (answer .entry))
+        ≡ record { status = r; memory = now (memory .exit); trace = now (trace .exit); answer = now (answer .exit) } ⌝ }
 {
     if answer.len() < RUN_WORDS {
         return ANSWER_TOO_SHORT;

@@ -10,10 +10,9 @@ use rules::Marks;
 use rules::ROW_WORDS;
 use table::judge;
 ghost use mathlib.Core.Path.{_≡_};
-ghost use Rattle.rules.specs.Answers.{advice};
+ghost use Rattle.rules.specs.Answers.{CheckAnswers};
 ghost use Rattle.rules.specs.declared.Checked.{Checked};
 ghost use Rattle.levels.specs.Found.{checkedAt};
-ghost use Rattle.levels.specs.Told.{advisedOf};
 
 // "pass, or fail with the lowest failing row", where that row and 1 is known, or 0 for none.
 fn checked_at(lowest: u32) -> Checked
@@ -28,7 +27,7 @@ fn checked_at(lowest: u32) -> Checked
 // Checks the recipe of a table from a mark set, in a settled context: pass, or fail with the lowest failing row, and the
 // final marks. A bad table is refused, and the marks are then as given.
 pub fn check(table: &[u32], marks: Marks) -> Advice
-    ensures { λ r. ⌜ advisedOf r ≡ advice (now (table .entry)) marks ⌝ }
+    ensures { λ r. ⌜ CheckAnswers (now (table .entry)) marks r ⌝ }
 {
     let judged = judge(table);
     if let Judged::Refused { number, row } = judged {

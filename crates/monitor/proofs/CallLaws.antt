@@ -14,7 +14,7 @@ use Rattle.rules.specs.Judging.{judge}
 use Rattle.rules.specs.Running.{Item, statement, State, state, Record, run}
 use Rattle.rules.specs.Bounds.{mostPending, Bounds}
 use Rattle.rules.specs.Sound.{Sound}
-use Rattle.rules.specs.Answers.{Whole, Inputs, saidOfRun, reached, answer, traceAfter, toldOf, telling, RunAnswers, termsOf}
+use Rattle.rules.specs.Answers.{Whole, Inputs, inputs, saidOfRun, reached, answer, traceAfter, toldOf, telling, RunAnswers, termsOf}
 use Rattle.rules.proofs.RowLaws.{statement-left}
 use Rattle.rules.proofs.JudgeLaws.{accepted-sound, accepted-count}
 use Rattle.rules.proofs.TreeLaws.{recipe-law}
@@ -93,9 +93,9 @@ module _ (words m : List ℕ) (l : ℕ) (ok : judge words ≡ Judged.Accepted) (
   pub ran-answer :
       (rows : ℕ) → rows ≡ length words / 4 → length t ≤ mostTraceWords → (budget : ℕ) (e′ p′ t′ : List ℕ) (r : Reached)
       → Went (rowsOf words) (arrays m (set e 0 rows) p t) (startHeld l) budget e′ p′ t′ r
-      → answer (record { words = words; memory = m; marks = l; budget = budget; trace = t }) ≡ shown t′ r
+      → answer (inputs words m l budget t) ≡ shown t′ r
   ran-answer rows count fits budget e′ p′ t′ r went =
-      answer-ran (record { words = words; memory = m; marks = l; budget = budget; trace = t }) ok fits
+      answer-ran (inputs words m l budget t) ok fits
       ∙ ap (λ (σ : State). reached (run (termsOf (length t)) budget σ)) (sym (start-state rows count))
       ∙ ap reached (went .ran)
 

@@ -3,24 +3,13 @@ use Prim.Native.Nat.{ℕ, _-_, _≤_}
 use mathlib.Core.List.{List}
 use mathlib.Core.Path.{_≡_}
 use lib.ListN.{length}
-use Rattle.rules.specs.declared.Memory.{Memory}
 use Rattle.rules.specs.declared.Row.{Row}
 use Rattle.rules.specs.Running.{outcome, run}
-use Rattle.rules.specs.Answers.{Inputs, termsOf}
+use Rattle.rules.specs.Answers.{termsOf}
 use Rattle.step.specs.declared.Held.{Held}
 use Rattle.step.specs.Denoted.{Arrays, arrays, stateOf, Holds}
 use Rattle.step.specs.Turns.{Kept}
 use Rattle.monitor.specs.declared.Reached.{Reached}
-
--- what a call of the run is given
-abbrev pub lent : List ℕ → Memory → ℕ → ℕ → List ℕ → Inputs
-lent table memory marks budget trace = record {
-  words = table;
-  memory = memory .words;
-  marks = marks;
-  budget = budget;
-  trace = trace;
-}
 
 -- the arrays afterwards
 abbrev pub leftIn : Reached → List ℕ → List ℕ → List ℕ → Arrays

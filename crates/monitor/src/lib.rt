@@ -17,9 +17,9 @@ ghost use Rattle.rules.specs.declared.Judged.{Judged};
 ghost use Rattle.rules.specs.Limits.{mostTraceWords};
 ghost use Rattle.rules.specs.Judging.{judge};
 ghost use Rattle.rules.specs.Rows.{rowsOf};
-ghost use Rattle.rules.specs.Answers.{RunAnswers};
+ghost use Rattle.rules.specs.Answers.{inputs, RunAnswers};
 ghost use Rattle.step.specs.Denoted.{arrays, Holds};
-ghost use Rattle.monitor.specs.Going.{lent, Went};
+ghost use Rattle.monitor.specs.Going.{Went};
 
 // "the lent trace exceeds 16,384 words"
 const MOST_TRACE_WORDS: usize = 16384;
@@ -30,6 +30,18 @@ pub struct Reached {
     pub steps: u32,
     pub held: Held,
     pub memory: Memory,
+}
+
+// What the run has reached where it ends like this.
+fn end_run(ended: Ended, steps: u32, held: Held, memory: Memory) -> Reached
+    ensures { λ r. ⌜ r ≡ record { ended = ended; steps = steps; held = held; memory = memory } ⌝ }
+{
+    Reached {
+        ended,
+        steps,
+        held,
+        memory,
+    }
 }
 
 // Goes on with the run until it ends: a turn of the loop is one step.
@@ -55,20 +67,10 @@ fn go_on(
     let mut steps: u32 = 0;
     loop {
         if here.pending == 0 {
-            return Reached {
-                ended: Ended::Done,
-                steps,
-                held: here,
-                memory: Memory { words },
-            };
+            return end_run(Ended::Done, steps, here, Memory { words });
         }
         if steps == budget {
-            return Reached {
-                ended: Ended::Spent,
-                steps,
-                held: here,
-                memory: Memory { words },
-            };
+            return end_run(Ended::Spent, steps, here, Memory { words });
         }
         let turn = step::step(table, &mut words, entries, pile, trace, here);
         match turn {
@@ -77,20 +79,10 @@ fn go_on(
                 steps += 1;
             }
             Turn::Stopped(row) => {
-                return Reached {
-                    ended: Ended::Stopped(row),
-                    steps,
-                    held: here,
-                    memory: Memory { words },
-                };
+                return end_run(Ended::Stopped(row), steps, here, Memory { words });
             }
             Turn::NoRoom(row) => {
-                return Reached {
-                    ended: Ended::NoRoom(row),
-                    steps,
-                    held: here,
-                    memory: Memory { words },
-                };
+                return end_run(Ended::NoRoom(row), steps, here, Memory { words });
             }
         }
     }
@@ -119,7 +111,7 @@ fn run_accepted(
 ) -> Answer
     requires { ⌜ (judge (now table) ≡ Judged.Accepted) × (length (now trace) ≤ mostTraceWords) ⌝ }
     ensures { λ r. ⌜
-        RunAnswers (lent (now (table .entry)) memory marks budget (now (trace .entry))) r
+        RunAnswers (inputs (now (table .entry)) (memory .words) marks budget (now (trace .entry))) r
         (now (trace .exit)) ⌝ }
 {
     let mut entries = [0u16; ENTRIES];
@@ -148,7 +140,7 @@ fn run_accepted(
 // steps, records, memory and marks that it reached. A bad table or an oversized trace is refused, and then nothing has changed.
 pub fn run(table: &[u32], memory: Memory, marks: Marks, budget: u32, trace: &mut [u32]) -> Answer
     ensures { λ r. ⌜
-        RunAnswers (lent (now (table .entry)) memory marks budget (now (trace .entry))) r
+        RunAnswers (inputs (now (table .entry)) (memory .words) marks budget (now (trace .entry))) r
         (now (trace .exit)) ⌝ }
 {
     let judged = table::judge(table);

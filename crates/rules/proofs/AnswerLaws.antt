@@ -17,7 +17,7 @@ use Rattle.rules.specs.Trees.{recipe}
 use Rattle.rules.specs.Judging.{orElse, judge, judgeTrace}
 use Rattle.rules.specs.Running.{statement, State, state, blank, start, Record}
 use Rattle.rules.specs.LevelCheck.{walk, checkedOf}
-use Rattle.rules.specs.Answers.{Told, Said, accepted, refused, verdict, pass, fail, saidOfJudge, saidOfRun, saidOfCheck, Whole, Inputs, final, started, admitted, answered, termsOf, answer, traceWordsOf, traceAfter, advised, advice, judgement, toldOf, telling}
+use Rattle.rules.specs.Answers.{Told, Said, accepted, refused, verdict, pass, fail, saidOfJudge, saidOfRun, saidOfCheck, Whole, Inputs, inputs, final, started, admitted, answered, termsOf, answer, traceWordsOf, traceAfter, advised, advice, judgement, toldOf, telling}
 use Rattle.rules.specs.Sound.{Sound}
 use Rattle.rules.proofs.JudgeLaws.{orElse-accepted, accepted-sound}
 
@@ -73,8 +73,8 @@ answer-ran i e fits =
     ∙ ap (λ (c : Bool). by-judged i (cond c (Judged.Refused 6 0) Judged.Accepted)) (le-ltb mostTraceWords (length (i .trace)) fits)
 
 -- the answer depends on the trace by its length alone
-pub answer-room : (words m : List ℕ) (l b : ℕ) (t t′ : List ℕ) → length t ≡ length t′
-    → answer (record { words = words; memory = m; marks = l; budget = b; trace = t }) ≡ answer (record { words = words; memory = m; marks = l; budget = b; trace = t′ })
+pub answer-room :
+    (words m : List ℕ) (l b : ℕ) (t t′ : List ℕ) → length t ≡ length t′ → answer (inputs words m l b t) ≡ answer (inputs words m l b t′)
 unfolding answer
 answer-room words m l b t t′ e =
     ap (λ (n : ℕ). answered (orElse (judge words) (judgeTrace n)) (termsOf n) b (start (recipe (rowsOf words)) m l)) e

@@ -97,6 +97,9 @@ pub record Inputs : Type 0 where
   pub budget : ℕ
   pub trace : List ℕ
 
+abbrev pub inputs : List ℕ → List ℕ → ℕ → ℕ → List ℕ → Inputs
+inputs words memory marks budget trace = record { words = words; memory = memory; marks = marks; budget = budget; trace = trace }
+
 -- the state from which its recipe starts
 abbrev pub started : Inputs → State
 started i = start (recipe (rowsOf (i .words))) (i .memory) (i .marks)

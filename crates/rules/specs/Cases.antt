@@ -4,7 +4,7 @@ use mathlib.Core.List.{List, [], _∷_, _++_, map}
 use mathlib.Core.Path.{_≡_}
 use lib.ListN.{length, replicate}
 use Rattle.rules.specs.Limits.{width}
-use Rattle.rules.specs.Answers.{Said, Whole, Inputs, answer, traceAfter, Advised, advice}
+use Rattle.rules.specs.Answers.{Said, Whole, Inputs, inputs, answer, traceAfter, Advised, advice}
 
 -- a row as it is written: k, p, q, r
 abbrev pub Quad : Type 0
@@ -37,13 +37,7 @@ pub record Case : Type 0 where
   pub expected : Result
 
 abbrev pub inputsOf : Given → Inputs
-inputsOf g = record {
-  words = wordsOf (g .table);
-  memory = memoryOf (g .memory);
-  marks = g .marks;
-  budget = g .budget;
-  trace = g .trace;
-}
+inputsOf g = inputs (wordsOf (g .table)) (memoryOf (g .memory)) (g .marks) (g .budget) (g .trace)
 
 unfoldable pub answerTo : Given → Whole
 answerTo g = answer (inputsOf g)

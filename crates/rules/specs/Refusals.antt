@@ -10,7 +10,7 @@ use Rattle.rules.specs.Trees.{Stmt, recipe}
 use Rattle.rules.specs.Values.{operate}
 use Rattle.rules.specs.Running.{start, run}
 use Rattle.rules.specs.LevelCheck.{walk}
-use Rattle.rules.specs.Answers.{Said, accepted, refused, verdict, judgement, answer, reached, termsOf}
+use Rattle.rules.specs.Answers.{Said, accepted, refused, verdict, judgement, inputs, answer, reached, termsOf}
 use Rattle.rules.specs.Cases.{Quad, wordsOf, memoryOf}
 
 -- J. "4,294,967,295 + 1 = 0; 0 - 1 = 4,294,967,295; 5 / 0 = 0."
@@ -94,7 +94,7 @@ judgements = atTheLimits ++ badTables
 -- K. "16,384 and 16,385 trace words, 6": skip with a budget of 1 and so many trace words
 unfoldable pub traced : ℕ → Said
 traced traceWords =
-    answer (record { words = 0 ∷ 0 ∷ 0 ∷ 0 ∷ []; memory = memoryOf []; marks = 0; budget = 1; trace = replicate traceWords 0 }) .said
+    answer (inputs (0 ∷ 0 ∷ 0 ∷ 0 ∷ []) (memoryOf []) 0 1 (replicate traceWords 0)) .said
 
 -- The claim: every table is judged as expected, and so is the trace.
 abbrev pub CaseK : Type 0

@@ -4,7 +4,7 @@ use rules::MOST_ROWS;
 use rules::ROW_WORDS;
 ghost use mathlib.Core.Path.{_≡_};
 ghost use Rattle.rules.specs.Judging.{wrongCount};
-ghost use Rattle.rules.specs.Answers.{saidOfJudge, judgement};
+ghost use Rattle.rules.specs.Answers.{JudgeAnswers};
 
 mod children;
 mod depths;
@@ -28,7 +28,7 @@ fn wrong_count(table: &[u32]) -> bool
 
 // The judge: accepted, or the lowest refusal from 1 to 5 that applies anywhere, with its lowest row.
 pub fn judge(table: &[u32]) -> Judged
-    ensures { λ r. ⌜ saidOfJudge r ≡ judgement (now (table .entry)) ⌝ }
+    ensures { λ r. ⌜ JudgeAnswers (now (table .entry)) r ⌝ }
 {
     if wrong_count(table) {
         return Judged::Refused { number: 1, row: 0 };

@@ -1,13 +1,13 @@
 -- `desk::report_run` meets its contract. Assumes nothing.
-use Prim.Native.Nat.{ℕ}
 use mathlib.Core.Path.{sym, ap, _∙_}
 use denote.Ref.{now}
-use Rattle.rules.specs.Answers.{answer}
+use Rattle.rules.specs.Answers.{Whole}
+use Rattle.rules.proofs.AnswerLaws.{answer-room}
 use Rattle.report.specs.Reports.{report}
 use Rattle.report.specs.Written.{placedIn}
 use Rattle.desk.specs.Desk.{mostReport}
 use native.Mathlib.Omega.{arith}
-use Rattle.desk.proofs.DeskLaws.{room-lent}
+use Rattle.desk.proofs.DeskLaws.{room-lent, room-same}
 use borrow.Author.Needs.{needs}
 use Rattle.desk.proofs.report_run.Statement.{statement}
 use Rattle.desk.proofs.report_run.Tie as tie
@@ -35,8 +35,8 @@ returns c =
     let start = at-report-traced .before .before .before .before .before in
     let args = start .args in
     at-report-traced .report-traced .ensures
-    ∙ ap (λ (words : ℕ). placedIn mostReport (report (answer (now (args .table)) (args .memory .words) (args .marks) (args .budget) words)) (now (args .out)))
-    (room-lent (args .room) (start .pre .0))
+    ∙ ap (λ (w : Whole). placedIn mostReport (report w) (now (args .out)))
+    (answer-room (now (args .table)) (args .memory .words) (args .marks) (args .budget) _ _ (room-same (args .room) (start .pre .0)))
 
 pub report-run-spec : {M : Type 1} → statement M
 report-run-spec =

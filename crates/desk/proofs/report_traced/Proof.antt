@@ -1,6 +1,7 @@
 -- `desk::report_traced` meets its contract. Assumes nothing.
 use mathlib.Core.Path.{_∙_}
 use denote.Ref.{now}
+use Rattle.rules.specs.Answers.{inputs}
 use Rattle.desk.proofs.DeskLaws.{run-written}
 use borrow.Author.Needs.{needs}
 use Rattle.desk.proofs.report_traced.Statement.{statement}
@@ -25,8 +26,8 @@ returns c =
     let start = at-run .before .before .before .before .before in
     let args = start .args in
     at-write-report .write-report .ensures
-    ∙ run-written (at-run .run .result) _ (at-run .run .ensures .0) (now (args .trace)) (at-run .run .last .1 .1 .1 .1 .0)
-    (at-run .run .ensures .1) (now (args .out)) (same-length c) (start .pre .0) (start .pre .1)
+    ∙ run-written (at-run .run .result) (inputs (now (args .table)) (args .memory .words) (args .marks) (args .budget) (now (args .trace)))
+    (at-run .run .last .1 .1 .1 .1 .0) (at-run .run .ensures) (now (args .out)) (same-length c) (start .pre .0) (start .pre .1)
 
 pub report-traced-spec : {M : Type 1} → statement M
 report-traced-spec =

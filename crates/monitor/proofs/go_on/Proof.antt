@@ -2,11 +2,11 @@
 use borrow.Author.Needs.{needs}
 use native.Mathlib.Omega.{arith}
 use Prim.Native.Nat.{_-_}
-use mathlib.Core.Path.{subst}
+use mathlib.Core.Path.{sym, subst}
 use Rattle.rules.specs.Rows.{rowsOf}
 use Rattle.step.specs.Denoted.{arrays}
 use Rattle.step.specs.Turns.{Turned}
-use Rattle.monitor.specs.Going.{UnderWay}
+use Rattle.monitor.specs.Going.{Went, UnderWay}
 use Rattle.monitor.proofs.GoingLaws.{starts, done-here, spent-here, stopped-here, full-here, goes-on}
 use Rattle.monitor.proofs.go_on.Statement.{statement}
 use Rattle.monitor.proofs.go_on.Tie as tie
@@ -24,27 +24,35 @@ loop-holds c =
     let a = start .args in
     starts (rowsOf (a .table .now)) (arrays (a .memory .words) (a .entries .now) (a .pile .now) (a .trace .now)) (a .held) (a .budget) (start .pre)
 
+end-run-requires : tie.Need-end-run-requires Inv-loop μ-loop
+end-run-requires c κs = tt
+
 same-length : tie.Need-same-length Inv-loop μ-loop
 same-length c = search needs
 
 returns : tie.Need-returns Inv-loop μ-loop
 returns c =
-    let loop = c .before .before in
+    let loop = c .before .before .before in
     let start = loop .before .before .before .before in
     let a = start .args in
     let now = loop .loop in
-    done-here (rowsOf (a .table .now)) (arrays (a .memory .words) (a .entries .now) (a .pile .now) (a .trace .now)) (a .held) (a .budget) (arrays (now .words) (now .entries) (now .pile) (now .trace)) (now .here) (now .steps) (now .inv) (c .if1 .taken)
+    subst (Went (rowsOf (a .table .now)) (arrays (a .memory .words) (a .entries .now) (a .pile .now) (a .trace .now)) (a .held) (a .budget) _ _ _) (sym (c .end-run .ensures))
+    (done-here (rowsOf (a .table .now)) (arrays (a .memory .words) (a .entries .now) (a .pile .now) (a .trace .now)) (a .held) (a .budget) (arrays (now .words) (now .entries) (now .pile) (now .trace)) (now .here) (now .steps) (now .inv) (c .before .if1 .taken))
+
+end-run-requires-2 : tie.Need-end-run-requires-2 Inv-loop μ-loop
+end-run-requires-2 c κs = tt
 
 same-length-2 : tie.Need-same-length-2 Inv-loop μ-loop
 same-length-2 c = search needs
 
 returns-2 : tie.Need-returns-2 Inv-loop μ-loop
 returns-2 c =
-    let loop = c .before .before .before in
+    let loop = c .before .before .before .before in
     let start = loop .before .before .before .before in
     let a = start .args in
     let now = loop .loop in
-    spent-here (rowsOf (a .table .now)) (arrays (a .memory .words) (a .entries .now) (a .pile .now) (a .trace .now)) (a .held) (a .budget) (arrays (now .words) (now .entries) (now .pile) (now .trace)) (now .here) (now .steps) (now .inv) (c .before .if1 .left) (c .if2 .taken)
+    subst (Went (rowsOf (a .table .now)) (arrays (a .memory .words) (a .entries .now) (a .pile .now) (a .trace .now)) (a .held) (a .budget) _ _ _) (sym (c .end-run2 .ensures))
+    (spent-here (rowsOf (a .table .now)) (arrays (a .memory .words) (a .entries .now) (a .pile .now) (a .trace .now)) (a .held) (a .budget) (arrays (now .words) (now .entries) (now .pile) (now .trace)) (now .here) (now .steps) (now .inv) (c .before .before .if1 .left) (c .before .if2 .taken))
 
 step-requires : tie.Need-step-requires Inv-loop μ-loop
 step-requires c κs =
@@ -83,32 +91,40 @@ loop-again c =
 enum-known-turn-2 : tie.Need-enum-known-turn-2 Inv-loop μ-loop
 enum-known-turn-2 c = search needs
 
+end-run-requires-3 : tie.Need-end-run-requires-3 Inv-loop μ-loop
+end-run-requires-3 c κs = tt
+
 same-length-3 : tie.Need-same-length-3 Inv-loop μ-loop
 same-length-3 c = search needs
 
 returns-3 : tie.Need-returns-3 Inv-loop μ-loop
 returns-3 c =
-    let loop = c .before .before .before .before .before .before .before .before .before .before .before .before .before in
+    let loop = c .before .before .before .before .before .before .before .before .before .before .before .before .before .before in
     let start = loop .before .before .before .before in
     let a = start .args in
     let now = loop .loop in
-    stopped-here (rowsOf (a .table .now)) (arrays (a .memory .words) (a .entries .now) (a .pile .now) (a .trace .now)) (a .held) (a .budget) (arrays (now .words) (now .entries) (now .pile) (now .trace)) (now .here) (now .steps) (now .inv) (c .before .before .before .before .before .before .before .before .before .before .if2 .left) _ (arrays _ _ _ _)
-    (subst (Turned (rowsOf (a .table .now)) (arrays (now .words) (now .entries) (now .pile) (now .trace)) (now .here) (arrays _ _ _ _)) (c .before .turn2 .given .1) (c .before .before .before .before .before .step .ensures))
+    subst (Went (rowsOf (a .table .now)) (arrays (a .memory .words) (a .entries .now) (a .pile .now) (a .trace .now)) (a .held) (a .budget) _ _ _) (sym (c .end-run3 .ensures))
+    (stopped-here (rowsOf (a .table .now)) (arrays (a .memory .words) (a .entries .now) (a .pile .now) (a .trace .now)) (a .held) (a .budget) (arrays (now .words) (now .entries) (now .pile) (now .trace)) (now .here) (now .steps) (now .inv) (c .before .before .before .before .before .before .before .before .before .before .before .if2 .left) _ (arrays _ _ _ _)
+    (subst (Turned (rowsOf (a .table .now)) (arrays (now .words) (now .entries) (now .pile) (now .trace)) (now .here) (arrays _ _ _ _)) (c .before .before .turn2 .given .1) (c .before .before .before .before .before .before .step .ensures)))
 
 enum-known-turn-3 : tie.Need-enum-known-turn-3 Inv-loop μ-loop
 enum-known-turn-3 c = search needs
+
+end-run-requires-4 : tie.Need-end-run-requires-4 Inv-loop μ-loop
+end-run-requires-4 c κs = tt
 
 same-length-4 : tie.Need-same-length-4 Inv-loop μ-loop
 same-length-4 c = search needs
 
 returns-4 : tie.Need-returns-4 Inv-loop μ-loop
 returns-4 c =
-    let loop = c .before .before .before .before .before .before .before .before .before .before .before .before .before in
+    let loop = c .before .before .before .before .before .before .before .before .before .before .before .before .before .before in
     let start = loop .before .before .before .before in
     let a = start .args in
     let now = loop .loop in
-    full-here (rowsOf (a .table .now)) (arrays (a .memory .words) (a .entries .now) (a .pile .now) (a .trace .now)) (a .held) (a .budget) (arrays (now .words) (now .entries) (now .pile) (now .trace)) (now .here) (now .steps) (now .inv) (c .before .before .before .before .before .before .before .before .before .before .if2 .left) _ (arrays _ _ _ _)
-    (subst (Turned (rowsOf (a .table .now)) (arrays (now .words) (now .entries) (now .pile) (now .trace)) (now .here) (arrays _ _ _ _)) (c .before .turn3 .given .1) (c .before .before .before .before .before .step .ensures))
+    subst (Went (rowsOf (a .table .now)) (arrays (a .memory .words) (a .entries .now) (a .pile .now) (a .trace .now)) (a .held) (a .budget) _ _ _) (sym (c .end-run4 .ensures))
+    (full-here (rowsOf (a .table .now)) (arrays (a .memory .words) (a .entries .now) (a .pile .now) (a .trace .now)) (a .held) (a .budget) (arrays (now .words) (now .entries) (now .pile) (now .trace)) (now .here) (now .steps) (now .inv) (c .before .before .before .before .before .before .before .before .before .before .before .if2 .left) _ (arrays _ _ _ _)
+    (subst (Turned (rowsOf (a .table .now)) (arrays (now .words) (now .entries) (now .pile) (now .trace)) (now .here) (arrays _ _ _ _)) (c .before .before .turn3 .given .1) (c .before .before .before .before .before .before .step .ensures)))
 
 pub go-on-spec : {M : Type 1} → statement M
 go-on-spec =
@@ -117,8 +133,10 @@ go-on-spec =
     Inv-loop
     μ-loop
     loop-holds
+    end-run-requires
     same-length
     returns
+    end-run-requires-2
     same-length-2
     returns-2
     step-requires
@@ -127,8 +145,10 @@ go-on-spec =
     loop-less
     loop-again
     enum-known-turn-2
+    end-run-requires-3
     same-length-3
     returns-3
     enum-known-turn-3
+    end-run-requires-4
     same-length-4
     returns-4)

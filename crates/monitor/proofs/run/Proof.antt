@@ -3,7 +3,7 @@ use native.Mathlib.Omega.{arith}
 use mathlib.Core.Path.{_≡_, refl, sym, _∙_}
 use Rattle.rules.specs.declared.Judged.{Judged}
 use Rattle.rules.proofs.AnswerLaws.{said-judged, answer-refused, answer-oversized}
-use Rattle.monitor.specs.Going.{lent}
+use Rattle.rules.specs.Answers.{inputs}
 use Rattle.monitor.proofs.CallLaws.{away-told}
 use borrow.Author.Needs.{needs}
 use Rattle.monitor.proofs.run.Statement.{statement}
@@ -23,7 +23,7 @@ returns c =
     let start = c .before .before .before .before .before .before .before in
     let a = start .args in
     let told = c .before .before in
-    let i = lent (a .table .now) (a .memory) (a .marks) (a .budget) (a .trace .now) in
+    let i = inputs (a .table .now) (a .memory .words) (a .marks) (a .budget) (a .trace .now) in
     away-told i _ _
     (answer-refused i _ _
     (sym (said-judged (a .table .now) (told .before .before .judge .ensures)) ∙ told .judged .given .1))
@@ -40,7 +40,7 @@ returns-2 c =
     let start = c .before .before .before .before .before .before .before in
     let a = start .args in
     let told = c .before .before in
-    let i = lent (a .table .now) (a .memory) (a .marks) (a .budget) (a .trace .now) in
+    let i = inputs (a .table .now) (a .memory .words) (a .marks) (a .budget) (a .trace .now) in
     away-told i 6 0
     (answer-oversized i
     (sym (said-judged (a .table .now) (told .before .before .judge .ensures)) ∙ told .enum-told .given .1) (c .before .if1 .taken))

@@ -6,7 +6,7 @@ use Rattle.rules.specs.Limits.{mostNesting}
 use Rattle.rules.specs.Rows.{rowsOf}
 use Rattle.rules.specs.Bounds.{mostPending}
 use Rattle.rules.proofs.JudgeLaws.{accepted-sound, accepted-count}
-use Rattle.monitor.specs.Going.{lent}
+use Rattle.rules.specs.Answers.{inputs}
 use Rattle.monitor.proofs.CallLaws.{start-holds, ran-answer, ran-told}
 use borrow.Author.Needs.{needs}
 use Rattle.monitor.proofs.run_accepted.Statement.{statement}
@@ -38,7 +38,7 @@ returns c =
     let went = c .before .before .before .before in
     let start = went .before .before .before .before .before .before in
     let a = start .args in
-    ran-told (lent (a .table .now) (a .memory) (a .marks) (a .budget) (a .trace .now)) _ _ _ _ _ _ (went .go-on .result) (went .go-on .ensures)
+    ran-told (inputs (a .table .now) (a .memory .words) (a .marks) (a .budget) (a .trace .now)) _ _ _ _ _ _ (went .go-on .result) (went .go-on .ensures)
     (ran-answer (a .table .now) (a .memory .words) (a .marks) (start .pre .0) (replicate mostPending 0) (replicate mostNesting 0) (a .trace .now) refl _ refl (start .pre .1) (a .budget) _ _ _ (went .go-on .result) (went .go-on .ensures))
     _ refl
 
