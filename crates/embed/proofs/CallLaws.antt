@@ -2,7 +2,7 @@
 use Prim.Native.Nat.{ℕ, suc, _+_, _-_, _≤_, _<_}
 use mathlib.Core.Bool.{Bool, true, false}
 use mathlib.Core.List.{List, [], _∷_, _++_}
-use mathlib.Core.Path.{_≡_, refl, sym, ap, ap₂, _∙_}
+use mathlib.Core.Path.{_≡_, refl, sym, ap, ap₂, subst, _∙_}
 use native.Mathlib.Numerals.{add-one}
 use native.Mathlib.Omega.{arith}
 use lib.Dec.{ltb}
@@ -12,7 +12,7 @@ use borrow.Author.Tests.{lt-ltb, le-ltb}
 use Rattle.rules.specs.declared.Advice.{Advice}
 use Rattle.rules.specs.declared.Answer.{Answer}
 use Rattle.rules.specs.Limits.{width}
-use Rattle.rules.specs.Answers.{Said, Whole, Inputs, Advised, advisedOf, judgement, advice, answer, traceAfter, saidOfRun, saidOfCheck, toldOf, telling, RunAnswers}
+use Rattle.rules.specs.Answers.{Said, Whole, Inputs, inputs, Advised, advisedOf, judgement, advice, answer, traceAfter, saidOfRun, saidOfCheck, toldOf, telling, RunAnswers}
 use Rattle.rules.proofs.AnswerLaws.{told-said, told-steps, told-records, told-memory, told-marks}
 use Rattle.embed.specs.declared.Numbers.{Numbers}
 use Rattle.embed.specs.Calls.{numbersOf, saidWords, runWords, laid, answered, answerTooShort, memoryTooShort, judgeLength, runLength, callBy, judgeCall, checkWords, checkLength, checkCall, ranCall, runCallBy, runCall, firstWords}
@@ -81,7 +81,13 @@ module _ (i : Inputs) (buffer : List ℕ) where
   run-short-memory h m =
       ap₂ (λ (a b : Bool). runCallBy a b i buffer) (le-ltb (length buffer) runLength h) (lt-ltb (length (i .memory)) width m)
 
-  -- a run that was given the first words of the memory has answered: its memory, its trace and its words
+  -- a run that was given these first words of the memory has answered
+  pub run-given :
+      (given : List ℕ) (a : Answer) (trace′ : List ℕ) → given ≡ take width (i .memory)
+      → RunAnswers (inputs (i .words) given (i .marks) (i .budget) (i .trace)) a trace′ → RunAnswers (firstWords i) a trace′
+  run-given given a trace′ e x = subst (λ (m : List ℕ). RunAnswers (inputs (i .words) m (i .marks) (i .budget) (i .trace)) a trace′) e x
+
+  -- its memory, its trace and its words
   pub run-answered : (a : Answer) (trace′ : List ℕ)
       → runLength ≤ length buffer → width ≤ length (i .memory) → length (a .memory .words) ≡ width → RunAnswers (firstWords i) a trace′
       → runCall i buffer ≡ record {

@@ -7,9 +7,9 @@ use lib.ListN.{length, take}
 use Rattle.rules.specs.Limits.{width}
 use Rattle.embed.specs.declared.Numbers.{Numbers}
 use Rattle.embed.specs.Calls.{saidWords, laid, RunCall}
-use mathlib.Core.Path.{_≡_, refl, sym, ap, subst, _∙_}
-use Rattle.rules.specs.Answers.{inputs, RunAnswers}
-use Rattle.embed.proofs.CallLaws.{run-short-answer, run-short-memory, run-answered}
+use mathlib.Core.Path.{_≡_, refl, sym, ap, _∙_}
+use Rattle.rules.specs.Answers.{inputs}
+use Rattle.embed.proofs.CallLaws.{run-short-answer, run-short-memory, run-given, run-answered}
 use Rattle.embed.proofs.buzorinde_run.Statement.{statement}
 use Rattle.embed.proofs.buzorinde_run.Tie as tie
 
@@ -74,10 +74,9 @@ returns-3 c =
     let given = ran .before .before .before in
     let long = given .before .before .before in
     let a = long .before .before .before .before .before .before .args in
-    run-answered (inputs (a .table .now) (a .memory .now) (a .marks) (a .budget) (a .trace .now)) (a .answer .now) (ran .run .result) _
-    (long .before .if1 .left) (long .if2 .left) (whole ran)
-    (subst (λ (m : List ℕ). RunAnswers (inputs (a .table .now) m (a .marks) (a .budget) (a .trace .now)) (ran .run .result) _)
-    (given .copy-words .ensures ∙ append-nil (take width (a .memory .now))) (ran .run .ensures))
+    let i = inputs (a .table .now) (a .memory .now) (a .marks) (a .budget) (a .trace .now) in
+    run-answered i (a .answer .now) (ran .run .result) _ (long .before .if1 .left) (long .if2 .left) (whole ran)
+    (run-given i (a .answer .now) _ (ran .run .result) _ (given .copy-words .ensures ∙ append-nil (take width (a .memory .now))) (ran .run .ensures))
     ∙ left (sym (copied .copy-words2 .ensures))
     (ap (λ (n : Numbers). laid (saidWords n ++ ran .run .result .steps ∷ ran .run .result .records ∷ ran .run .result .marks ∷ []) (a .answer .now)) (sym (numbers .run-numbers .ensures))
     ∙ sym (put .put-run .ensures))
