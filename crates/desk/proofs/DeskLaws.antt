@@ -43,24 +43,24 @@ module _ (a : Answer) (i : Inputs) (trace : List ℕ) (answered : RunAnswers i a
   abbrev before : List ℕ
   before = i .trace
 
-  told : toldOf a ≡ telling (answer i)
-  told = answered .told
+  says : toldOf a ≡ telling (answer i)
+  says = answered .told
 
   left : trace ≡ traceAfter (answer i .records) (i .trace)
   left = answered .trace-after
 
   records-told : recordsOf (a .records) trace ≡ w .records
   records-told =
-      ap₂ recordsOf (told-records a w told) (left ∙ trace-after-law (w .records) before) ∙ records-back (w .records) _
+      ap₂ recordsOf (told-records a w says) (left ∙ trace-after-law (w .records) before) ∙ records-back (w .records) _
 
   whole-told : wholeOf a trace ≡ w
   unfolding wholeOf
   whole-told = λ i. record {
-    said = told-said a w told i;
-    steps = told-steps a w told i;
+    said = told-said a w says i;
+    steps = told-steps a w says i;
     records = records-told i;
-    memory = told-memory a w told i;
-    marks = told-marks a w told i;
+    memory = told-memory a w says i;
+    marks = told-marks a w says i;
   }
 
   records-fit : length trace ≡ length before → recordWords * a .records ≤ length trace
@@ -68,7 +68,7 @@ module _ (a : Answer) (i : Inputs) (trace : List ℕ) (answered : RunAnswers i a
       let n = ap length (left ∙ trace-after-law (w .records) before) in
       let l = length-append (traceWordsOf (w .records)) (drop (length (traceWordsOf (w .records))) before) in
       let d = length-drop (length (traceWordsOf (w .records))) before in
-      omega (arith, words-counted (w .records), told-records a w told)
+      omega (arith, words-counted (w .records), told-records a w says)
 
   -- what is written is the report of the rules' answer
   pub run-written : (out : List ℕ) → length trace ≡ length before → length before ≤ mostTraceWords → mostReport ≤ length out
@@ -86,7 +86,7 @@ trace = replicate mostTraceWords 0
 pub room-lent : (room : ℕ) → room ≤ mostRoom → length (take (recordWords * room) trace) ≡ recordWords * room
 room-lent room h = length-take-le (recordWords * room) trace (omega (arith, length-replicate {A = ℕ} mostTraceWords 0))
 
-pub room-same : (room : ℕ) → room ≤ mostRoom → length (take (recordWords * room) trace) ≡ length (replicate (recordWords * room) 0)
+pub room-same : (room : ℕ) → room ≤ mostRoom → length (take (recordWords * room) trace) ≡ length {A = ℕ} (replicate (recordWords * room) 0)
 room-same room h = room-lent room h ∙ sym (length-replicate {A = ℕ} (recordWords * room) 0)
 
 -- ---- what the reader hands on
