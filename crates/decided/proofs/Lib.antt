@@ -1,0 +1,2 @@
+-- The proof that no second answer meets a contract.
+pub mod NoSecondAnswer
