@@ -41,8 +41,6 @@ no-second-answer = record {
   mark-as = λ _ _ _ _ _ _ e f. (same e f, refl);
   joined = λ _ _ _ _ _ _ e f. (same e f, refl);
   operated = λ _ _ _ _ _ _ e f. (same e f, refl);
-  read = λ _ _ _ _ _ _ e f. (same e f, refl);
-  store = λ _ _ _ _ _ _ e f. (λ i. record { words = same e f i }, refl);
   read-lent = λ _ _ _ _ _ _ e f. (same e f, refl);
   store-lent = λ _ _ _ _ _ _ e f. (refl, λ i. (same e f i, (tt, (tt, tt))));
   value-at = λ _ _ _ _ _ _ e f. (same e f, refl);

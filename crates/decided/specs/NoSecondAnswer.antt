@@ -9,8 +9,6 @@ use Rattle.leaves.proofs.marks.has_mark
 use Rattle.leaves.proofs.marks.mark_as
 use Rattle.leaves.proofs.marks.joined
 use Rattle.leaves.proofs.operators.operated
-use Rattle.leaves.proofs.memory.read
-use Rattle.leaves.proofs.memory.store
 use Rattle.leaves.proofs.memory.read_lent
 use Rattle.leaves.proofs.memory.store_lent
 use Rattle.expression.proofs.values.value_at
@@ -41,8 +39,6 @@ pub record NoSecondAnswer : Type 0 where
   pub mark-as : Decided mark_as.signature mark_as.Reads.Learnt
   pub joined : Decided joined.signature joined.Reads.Learnt
   pub operated : Decided operated.signature operated.Reads.Learnt
-  pub read : Decided read.signature read.Reads.Learnt
-  pub store : Decided store.signature store.Reads.Learnt
   pub read-lent : Decided read_lent.signature read_lent.Reads.Learnt
   pub store-lent : Decided store_lent.signature store_lent.Reads.Learnt
   -- `expression`

@@ -1,5 +1,4 @@
-// Memory: "carried with the run as a fixed set of 32 numbers". A variable's number counts modulo 32, as in a mark set.
-use rules::Memory;
+// Memory's words, lent within a step. A variable's number counts modulo 32, as in a mark set.
 use rules::VARIABLES;
 ghost use mathlib.Core.Path.{_≡_};
 ghost use Prim.Native.Nat.{_%_};
@@ -7,23 +6,6 @@ ghost use lib.ListN.{length, getD, set};
 ghost use Rattle.rules.specs.Limits.{width};
 
 // The variable's value.
-pub fn read(memory: Memory, variable: u32) -> u32
-    ensures { λ r. ⌜ r ≡ getD (memory .words) (variable % width) 0 ⌝ }
-{
-    let words = memory.words;
-    read_lent(&words, variable)
-}
-
-// The memory in which the variable has the value.
-pub fn store(memory: Memory, variable: u32, value: u32) -> Memory
-    ensures { λ r. ⌜ r .words ≡ set (memory .words) (variable % width) value ⌝ }
-{
-    let mut words = memory.words;
-    store_lent(&mut words, variable, value);
-    Memory { words }
-}
-
-// The variable's value, where the memory is lent.
 pub fn read_lent(words: &[u32; VARIABLES], variable: u32) -> u32
     requires { ⌜ length (now words) ≡ width ⌝ }
     ensures { λ r. ⌜ r ≡ getD (now (words .entry)) (variable % width) 0 ⌝ }
@@ -32,7 +14,7 @@ pub fn read_lent(words: &[u32; VARIABLES], variable: u32) -> u32
     words[from]
 }
 
-// Gives the variable the value, where the memory is lent.
+// Gives the variable the value.
 pub fn store_lent(words: &mut [u32; VARIABLES], variable: u32, value: u32)
     requires { ⌜ length (now words) ≡ width ⌝ }
     ensures { λ _. ⌜ now (words .exit) ≡ set (now (words .entry)) (variable % width) value ⌝ }

@@ -9,4 +9,3 @@ pub mod Permissive
 pub mod Bounds
 pub mod Examples
 pub mod Calls
-pub mod Unique

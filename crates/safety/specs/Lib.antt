@@ -3,4 +3,3 @@ pub mod Stations
 pub mod Demands
 pub mod Examples
 pub mod Calls
-pub mod Unique

@@ -1,3 +1,4 @@
 -- The words of this crate's contracts.
 pub mod Denoted
 pub mod Turns
+pub mod Open
