@@ -1,2 +1,3 @@
 -- The words of this crate's private contracts.
 pub mod Going
+pub mod Again
