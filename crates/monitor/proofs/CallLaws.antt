@@ -14,12 +14,12 @@ use Rattle.rules.specs.Judging.{judge}
 use Rattle.rules.specs.Running.{Item, statement, State, state, Record, run}
 use Rattle.rules.specs.Bounds.{mostPending, Bounds}
 use Rattle.rules.specs.Sound.{Sound}
-use Rattle.rules.specs.Answers.{Whole, Inputs, inputs, saidOfRun, reached, answer, traceAfter, toldOf, telling, RunAnswers, termsOf}
+use Rattle.rules.specs.Answers.{Whole, Inputs, inputs, saidOfRun, reached, answered, answer, traceAfter, toldOf, telling, Tells, RunAnswers, termsOf}
 use Rattle.rules.proofs.RowLaws.{statement-left}
 use Rattle.rules.proofs.JudgeLaws.{accepted-sound, accepted-count}
 use Rattle.rules.proofs.TreeLaws.{recipe-law}
 use Rattle.rules.proofs.BoundLaws.{bounds-start}
-use Rattle.rules.proofs.AnswerLaws.{startOf, turnedAway, answer-ran, telling-law, trace-kept}
+use Rattle.rules.proofs.AnswerLaws.{startOf, shown-law, turnedAway, answer-ran, telling-law, trace-kept}
 use Rattle.step.specs.declared.Held.{Held}
 use Rattle.step.specs.Denoted.{itemsOf, setsOf, recordsOf, arrays, stateOf, Entry, Holds}
 use Rattle.step.proofs.ArrayLaws.{item-row, items-push, items-none, entries-push, sets-none, records-none, records-length, trace-law}
@@ -91,11 +91,11 @@ module _ (words m : List ℕ) (l : ℕ) (ok : judge words ≡ Judged.Accepted) (
 
   -- what the run of an accepted table answers, from how it went
   pub ran-answer :
-      (rows : ℕ) → rows ≡ length words / 4 → length t ≤ mostTraceWords → (budget : ℕ) (e′ p′ t′ : List ℕ) (r : Reached)
+      (rows : ℕ) → rows ≡ length words / 4 → (budget : ℕ) (e′ p′ t′ : List ℕ) (r : Reached)
       → Went (rowsOf words) (arrays m (set e 0 rows) p t) (startHeld l) budget e′ p′ t′ r
-      → answer (inputs words m l budget t) ≡ shown t′ r
-  ran-answer rows count fits budget e′ p′ t′ r went =
-      answer-ran (inputs words m l budget t) ok fits
+      → answered Judged.Accepted (inputs words m l budget t) ≡ shown t′ r
+  ran-answer rows count budget e′ p′ t′ r went =
+      shown-law (inputs words m l budget t)
       ∙ ap (λ (σ : State). reached (run (termsOf (length t)) budget σ)) (sym (start-state rows count))
       ∙ ap reached (went .ran)
 
@@ -103,10 +103,10 @@ module _ (words m : List ℕ) (l : ℕ) (ok : judge words ≡ Judged.Accepted) (
 
 pub ran-told :
     (i : Inputs) (e p : List ℕ) (h : Held) (e′ p′ t′ : List ℕ) (r : Reached)
-    → Went (rowsOf (i .words)) (arrays (i .memory) e p (i .trace)) h (i .budget) e′ p′ t′ r → answer i ≡ shown t′ r → (a : Answer)
+    → Went (rowsOf (i .words)) (arrays (i .memory) e p (i .trace)) h (i .budget) e′ p′ t′ r → (w : Whole) → w ≡ shown t′ r → (a : Answer)
     → a ≡ record { ended = r .ended; steps = r .steps; records = r .held .records; memory = r .memory; marks = r .held .marks }
-    → RunAnswers i a t′
-ran-told i e p h e′ p′ t′ r went is a ea = record {
+    → Tells w (i .trace) a t′
+ran-told i e p h e′ p′ t′ r went w is a ea = record {
   told =
       telling-law a (shown t′ r) (ap (λ (x : Answer). saidOfRun (x .ended)) ea) (ap (λ (x : Answer). x .steps) ea)
       (ap (λ (x : Answer). x .records) ea ∙ sym (records-length t′ (r .held .records))) (ap (λ (x : Answer). x .memory .words) ea) (ap (λ (x : Answer). x .marks) ea)
@@ -114,6 +114,12 @@ ran-told i e p h e′ p′ t′ r went is a ea = record {
   trace-after =
       trace-law (i .trace) t′ (r .held .records) (went .holds .written) (went .kept) ∙ ap (λ (x : Whole). traceAfter (x .records) (i .trace)) (sym is);
 }
+
+-- a call that ran
+pub run-told :
+    (i : Inputs) → judge (i .words) ≡ Judged.Accepted → length (i .trace) ≤ mostTraceWords → (a : Answer) (after : List ℕ)
+    → Tells (answered Judged.Accepted i) (i .trace) a after → RunAnswers i a after
+run-told i ok fits a after told = subst (λ (w : Whole). Tells w (i .trace) a after) (sym (answer-ran i ok fits)) told
 
 -- a refused call
 pub away-told :

@@ -10,14 +10,14 @@ use step::Held;
 use step::SETS;
 use step::Turn;
 ghost use mathlib.Core.Path.{_≡_};
-ghost use Prim.Native.Nat.{_≤_};
-ghost use lib.ListN.{length};
 ghost use Rattle.rules.specs.declared.Ended.{Ended};
 ghost use Rattle.rules.specs.declared.Judged.{Judged};
-ghost use Rattle.rules.specs.Limits.{mostTraceWords};
+ghost use Prim.Native.Nat.{_^_, _≤_};
+ghost use lib.ListN.{length};
+ghost use Rattle.rules.specs.Limits.{wordBits};
 ghost use Rattle.rules.specs.Judging.{judge};
 ghost use Rattle.rules.specs.Rows.{rowsOf};
-ghost use Rattle.rules.specs.Answers.{inputs, RunAnswers};
+ghost use Rattle.rules.specs.Answers.{inputs, answered, Tells, RunAnswers};
 ghost use Rattle.step.specs.Denoted.{arrays, Holds};
 ghost use Rattle.monitor.specs.Going.{Went};
 
@@ -101,7 +101,7 @@ fn turned_away(number: u32, row: u32, memory: Memory, marks: Marks) -> Answer
     }
 }
 
-// Runs the recipe of an accepted table: the arrays are prepared, the run goes on until it ends, and the answer is put together.
+// Runs the recipe of an accepted table with a trace whose records a word can count: the arrays are prepared, the run goes on until it ends, and the answer is put together.
 fn run_accepted(
     table: &[u32],
     memory: Memory,
@@ -109,9 +109,10 @@ fn run_accepted(
     budget: u32,
     trace: &mut [u32],
 ) -> Answer
-    requires { ⌜ (judge (now table) ≡ Judged.Accepted) × (length (now trace) ≤ mostTraceWords) ⌝ }
+    requires { ⌜ (judge (now table) ≡ Judged.Accepted) × (length (now trace) ≤ 2 ^ wordBits) ⌝ }
     ensures { λ r. ⌜
-        RunAnswers (inputs (now (table .entry)) (memory .words) marks budget (now (trace .entry))) r
+        Tells (answered Judged.Accepted (inputs (now (table .entry)) (memory .words) marks budget (now (trace .entry))))
+        (now (trace .entry)) r
         (now (trace .exit)) ⌝ }
 {
     let mut entries = [0u16; ENTRIES];

@@ -1,10 +1,10 @@
 -- Laws of the whole answers: a call either runs or is refused, and what it answers then; each answer enum is told apart by
 -- what it says.
 use Prim.Native.Nat.{ℕ, _/_, _≤_, _<_}
-use mathlib.Core.Bool.{Bool, false, cond}
+use mathlib.Core.Bool.{Bool, true, false, cond}
 use mathlib.Core.List.{List, [], _∷_, _++_}
 use mathlib.Core.Path.{_≡_, refl, sym, ap, _∙_}
-use lib.Dec.{eqb}
+use lib.Dec.{eqb, ltb}
 use lib.ListN.{length, drop}
 use borrow.Author.Tests.{lt-ltb, le-ltb}
 use Rattle.rules.specs.declared.Judged.{Judged}
@@ -33,6 +33,10 @@ start-law words m l = refl
 abbrev pub shownOf : Inputs → Whole
 shownOf i = final (termsOf (length (i .trace))) (i .budget) (startOf (i .words) (i .memory) (i .marks))
 
+pub shown-law : (i : Inputs) → answered Judged.Accepted i ≡ shownOf i
+unfolding answered start
+shown-law i = refl
+
 -- what a refused run answers
 abbrev pub turnedAway : ℕ → ℕ → Inputs → Whole
 turnedAway number row i = record { said = refused number row; steps = 0; records = []; memory = i .memory; marks = i .marks }
@@ -42,42 +46,49 @@ pub data Call (i : Inputs) : Type 0 where
   ran : judge (i .words) ≡ Judged.Accepted → answer i ≡ shownOf i → Call i
   away : (number row : ℕ) → answer i ≡ turnedAway number row i → Call i
 
--- the answer, by what is said of table and trace
-by-judged : Inputs → Judged → Whole
-by-judged i j = answered j (termsOf (length (i .trace))) (i .budget) (started i)
-
 pub call : (i : Inputs) → Call i
-unfolding answer answered start by-judged
+unfolding answer answered
 call i = by (admitted i) refl
   where
     by : (j : Judged) → admitted i ≡ j → Call i
-    by Judged.Accepted e = ran (orElse-accepted (judge (i .words)) (judgeTrace (length (i .trace))) e .0) (ap (by-judged i) e)
-    by (Judged.Refused number row) e = away number row (ap (by-judged i) e)
+    by Judged.Accepted e =
+        ran (orElse-accepted (judge (i .words)) (judgeTrace (length (i .trace))) e .0) (ap (λ (j : Judged). answered j i) e ∙ shown-law i)
+    by (Judged.Refused number row) e = away number row (ap (λ (j : Judged). answered j i) e)
 
 -- ---- the three ways of a call
 
 pub answer-refused : (i : Inputs) (number row : ℕ) → judge (i .words) ≡ Judged.Refused number row → answer i ≡ turnedAway number row i
-unfolding answer answered orElse by-judged start
-answer-refused i number row e = ap (λ (j : Judged). by-judged i (orElse j (judgeTrace (length (i .trace))))) e
+unfolding answer answered orElse
+answer-refused i number row e = ap (λ (j : Judged). answered (orElse j (judgeTrace (length (i .trace)))) i) e
 
-pub answer-oversized : (i : Inputs) → judge (i .words) ≡ Judged.Accepted → mostTraceWords < length (i .trace) → answer i ≡ turnedAway 6 0 i
-unfolding answer answered orElse judgeTrace by-judged start
-answer-oversized i e over =
-    ap (λ (j : Judged). by-judged i (orElse j (judgeTrace (length (i .trace))))) e
-    ∙ ap (λ (c : Bool). by-judged i (cond c (Judged.Refused 6 0) Judged.Accepted)) (lt-ltb mostTraceWords (length (i .trace)) over)
+module _ (i : Inputs) (accepted : judge (i .words) ≡ Judged.Accepted) where
+  -- an accepted table is judged by its trace
+  by-trace : (oversized : Bool) → ltb mostTraceWords (length (i .trace)) ≡ oversized
+      → answer i ≡ answered (cond oversized (Judged.Refused 6 0) Judged.Accepted) i
+  unfolding answer orElse judgeTrace
+  by-trace oversized e =
+      ap (λ (j : Judged). answered (orElse j (judgeTrace (length (i .trace)))) i) accepted
+      ∙ ap (λ (c : Bool). answered (cond c (Judged.Refused 6 0) Judged.Accepted) i) e
 
-pub answer-ran : (i : Inputs) → judge (i .words) ≡ Judged.Accepted → length (i .trace) ≤ mostTraceWords → answer i ≡ shownOf i
-unfolding answer answered orElse judgeTrace by-judged start
-answer-ran i e fits =
-    ap (λ (j : Judged). by-judged i (orElse j (judgeTrace (length (i .trace))))) e
-    ∙ ap (λ (c : Bool). by-judged i (cond c (Judged.Refused 6 0) Judged.Accepted)) (le-ltb mostTraceWords (length (i .trace)) fits)
+  pub answer-oversized : mostTraceWords < length (i .trace) → answer i ≡ turnedAway 6 0 i
+  unfolding answered
+  answer-oversized over = by-trace true (lt-ltb mostTraceWords (length (i .trace)) over)
+
+  pub answer-ran : length (i .trace) ≤ mostTraceWords → answer i ≡ answered Judged.Accepted i
+  answer-ran fits = by-trace false (le-ltb mostTraceWords (length (i .trace)) fits)
 
 -- the answer depends on the trace by its length alone
-pub answer-room :
-    (words m : List ℕ) (l b : ℕ) (t t′ : List ℕ) → length t ≡ length t′ → answer (inputs words m l b t) ≡ answer (inputs words m l b t′)
-unfolding answer
-answer-room words m l b t t′ e =
-    ap (λ (n : ℕ). answered (orElse (judge words) (judgeTrace n)) (termsOf n) b (start (recipe (rowsOf words)) m l)) e
+module _ (words m : List ℕ) (l b : ℕ) (t t′ : List ℕ) (e : length t ≡ length t′) where
+  by-length : (j : Judged) → answered j (inputs words m l b t) ≡ answered j (inputs words m l b t′)
+  unfolding answered
+  by-length Judged.Accepted = ap (λ (n : ℕ). final (termsOf n) b (start (recipe (rowsOf words)) m l)) e
+  by-length (Judged.Refused number row) = refl
+
+  pub answer-room : answer (inputs words m l b t) ≡ answer (inputs words m l b t′)
+  unfolding answer
+  answer-room =
+      ap (λ (n : ℕ). answered (orElse (judge words) (judgeTrace n)) (inputs words m l b t)) e
+      ∙ by-length (orElse (judge words) (judgeTrace (length t′)))
 
 -- ---- what an answer tells
 

@@ -73,22 +73,6 @@ reached o = record {
 abbrev pub final : Terms → ℕ → State → Whole
 final terms budget σ = reached (run terms budget σ)
 
--- "A refused run answers its number and row instead of verdict and place, with 0 steps and 0 records, returns memory and
--- marks as given and writes no trace word."
-unfoldable pub answered : Judged → Terms → ℕ → State → Whole
-answered Judged.Accepted terms budget σ = final terms budget σ
-answered (Judged.Refused number row) terms budget σ = record {
-  said = refused number row;
-  steps = 0;
-  records = [];
-  memory = σ .memory;
-  marks = σ .marks;
-}
-
--- "Room is half the word count, rounded down."
-unfoldable pub termsOf : ℕ → Terms
-termsOf traceWords = record { room = traceWords / recordWords }
-
 -- What a run is given: "table of words, start memory, mark set, step budget and trace room", the trace as it is lent.
 pub record Inputs : Type 0 where
   pub words : List ℕ
@@ -100,9 +84,25 @@ pub record Inputs : Type 0 where
 abbrev pub inputs : List ℕ → List ℕ → ℕ → ℕ → List ℕ → Inputs
 inputs words memory marks budget trace = record { words = words; memory = memory; marks = marks; budget = budget; trace = trace }
 
+-- "Room is half the word count, rounded down."
+unfoldable pub termsOf : ℕ → Terms
+termsOf traceWords = record { room = traceWords / recordWords }
+
 -- the state from which its recipe starts
 abbrev pub started : Inputs → State
 started i = start (recipe (rowsOf (i .words))) (i .memory) (i .marks)
+
+-- "A refused run answers its number and row instead of verdict and place, with 0 steps and 0 records, returns memory and
+-- marks as given and writes no trace word."
+unfoldable pub answered : Judged → Inputs → Whole
+answered Judged.Accepted i = final (termsOf (length (i .trace))) (i .budget) (started i)
+answered (Judged.Refused number row) i = record {
+  said = refused number row;
+  steps = 0;
+  records = [];
+  memory = i .memory;
+  marks = i .marks;
+}
 
 -- "The lowest number from 1 to 6 that applies anywhere"
 abbrev pub admitted : Inputs → Judged
@@ -110,7 +110,7 @@ admitted i = orElse (judge (i .words)) (judgeTrace (length (i .trace)))
 
 -- The answer of a run.
 unfoldable pub answer : Inputs → Whole
-answer i = answered (admitted i) (termsOf (length (i .trace))) (i .budget) (started i)
+answer i = answered (admitted i) i
 
 -- "A record is two trace words: channel, value."
 unfoldable pub traceWordsOf : List Record → List ℕ
@@ -135,10 +135,14 @@ toldOf a = record { said = saidOfRun (a .ended); steps = a .steps; records = a .
 unfoldable pub telling : Whole → Told
 telling w = record { said = w .said; steps = w .steps; records = length (w .records); memory = w .memory; marks = w .marks }
 
+-- The answer tells this, and the records are written over a trace.
+pub record Tells (whole : Whole) (trace : List ℕ) (a : Answer) (after : List ℕ) : Type 0 where
+  pub told : toldOf a ≡ telling whole
+  pub trace-after : after ≡ traceAfter (whole .records) trace
+
 -- What a call of the run answers, and what it leaves in the trace: the contract of the function, and what the promises speak of.
-pub record RunAnswers (i : Inputs) (a : Answer) (after : List ℕ) : Type 0 where
-  pub told : toldOf a ≡ telling (answer i)
-  pub trace-after : after ≡ traceAfter (answer i .records) (i .trace)
+abbrev pub RunAnswers : Inputs → Answer → List ℕ → Type 0
+RunAnswers i = Tells (answer i) (i .trace)
 
 -- The level check's whole answer: what it says, "and the final marks in either case".
 pub record Advised : Type 0 where

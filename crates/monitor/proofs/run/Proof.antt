@@ -4,7 +4,7 @@ use mathlib.Core.Path.{_≡_, refl, sym, _∙_}
 use Rattle.rules.specs.declared.Judged.{Judged}
 use Rattle.rules.proofs.AnswerLaws.{said-judged, answer-refused, answer-oversized}
 use Rattle.rules.specs.Answers.{inputs}
-use Rattle.monitor.proofs.CallLaws.{away-told}
+use Rattle.monitor.proofs.CallLaws.{run-told, away-told}
 use borrow.Author.Needs.{needs}
 use Rattle.monitor.proofs.run.Statement.{statement}
 use Rattle.monitor.proofs.run.Tie as tie
@@ -49,15 +49,21 @@ returns-2 c =
 run-accepted-requires : tie.Need-run-accepted-requires
 run-accepted-requires c κs =
     let start = c .before .before .before .before .before .before .before in
-    let a = start .args in
     let told = c .before .before in
-    (sym (said-judged (a .table .now) (told .before .before .judge .ensures)) ∙ told .enum-told .given .1, c .before .if1 .left)
+    (sym (said-judged (start .args .table .now) (told .before .before .judge .ensures)) ∙ told .enum-told .given .1, omega (arith, c .before .if1 .left))
 
 same-length : tie.Need-same-length
 same-length c = search needs
 
 returns-3 : tie.Need-returns-3
-returns-3 c = search needs
+returns-3 c =
+    let ran = c .before .before in
+    let told = ran .before .before .before in
+    let start = told .before .before .before .before .before in
+    let a = start .args in
+    let i = inputs (a .table .now) (a .memory .words) (a .marks) (a .budget) (a .trace .now) in
+    run-told i (sym (said-judged (a .table .now) (told .before .before .judge .ensures)) ∙ told .enum-told .given .1) (ran .before .before .if1 .left) _ _
+    (ran .run-accepted .ensures)
 
 pub run-spec : {M : Type 1} → statement M
 run-spec =

@@ -28,7 +28,10 @@ go-on-requires c κs =
     start-holds (a .table .now) (a .memory .words) (a .marks) (start .pre .0) (replicate mostPending 0) (replicate mostNesting 0) (a .trace .now) refl _ refl (search needs) (start .fits .marks .fits) refl
 
 cast-records : tie.Need-cast-records
-cast-records c = search needs
+cast-records c =
+    let went = c .before .before .before in
+    let start = went .before .before .before .before .before .before in
+    record { fits = omega (arith, went .go-on .ensures .holds .written, went .go-on .ensures .kept .long, start .pre .1) }
 
 same-length : tie.Need-same-length
 same-length c = search needs
@@ -38,8 +41,8 @@ returns c =
     let went = c .before .before .before .before in
     let start = went .before .before .before .before .before .before in
     let a = start .args in
-    ran-told (inputs (a .table .now) (a .memory .words) (a .marks) (a .budget) (a .trace .now)) _ _ _ _ _ _ (went .go-on .result) (went .go-on .ensures)
-    (ran-answer (a .table .now) (a .memory .words) (a .marks) (start .pre .0) (replicate mostPending 0) (replicate mostNesting 0) (a .trace .now) refl _ refl (start .pre .1) (a .budget) _ _ _ (went .go-on .result) (went .go-on .ensures))
+    ran-told (inputs (a .table .now) (a .memory .words) (a .marks) (a .budget) (a .trace .now)) _ _ _ _ _ _ (went .go-on .result) (went .go-on .ensures) _
+    (ran-answer (a .table .now) (a .memory .words) (a .marks) (start .pre .0) (replicate mostPending 0) (replicate mostNesting 0) (a .trace .now) refl _ refl (a .budget) _ _ _ (went .go-on .result) (went .go-on .ensures))
     _ refl
 
 pub run-accepted-spec : {M : Type 1} → statement M
