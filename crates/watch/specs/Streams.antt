@@ -7,7 +7,7 @@ abbrev pub bytesOf : Moved → ℕ
 bytesOf (Moved.Bytes n) = n
 bytesOf Moved.Failed = 0
 
--- all of so many bytes were moved, or a call failed
+-- the number that is answered is that of all the bytes, or the answer is a failure; what the calls moved, it does not say
 abbrev pub Whole : ℕ → Moved → Type 0
 Whole all (Moved.Bytes n) = n ≡ all
 Whole all Moved.Failed = Unit {0}

@@ -1,5 +1,6 @@
 // Standard input read to its end, and standard output written whole. Calls that move only a part are gone on with, and so are
-// calls that a signal interrupts.
+// calls that a signal interrupts. The contracts bind the numbers that are answered; what the calls moved, no contract can say, and
+// tools/try-streams tries it.
 use libc::EINTR;
 use libc::STDIN_FILENO;
 use libc::STDOUT_FILENO;
@@ -7,7 +8,7 @@ ghost use Prim.Native.Nat.{_≤_};
 ghost use lib.ListN.{length};
 ghost use Rattle.watch.specs.Streams.{bytesOf, Whole};
 
-// How many bytes were moved; or a call failed, and errno says why.
+// How many bytes were moved; or a call failed, and errno says why; or a write took none.
 pub enum Moved {
     Bytes(usize),
     Failed,
@@ -68,7 +69,7 @@ pub fn read_all(buf: &mut [u8]) -> Moved
     Moved::Bytes(done)
 }
 
-// Writes the buffer to standard output: all of its bytes, or a call failed or took none.
+// Writes the buffer to standard output: all of its bytes, or as many as it takes until a call fails or takes none.
 pub fn write_all(buf: &[u8]) -> Moved
     ensures { λ r. ⌜ Whole (length (now (buf .entry))) r ⌝ }
 {
