@@ -2,6 +2,7 @@
 pub mod MarkLaws
 pub mod RowLaws
 pub mod JudgeLaws
+pub mod Lowest
 pub mod RefusalLaws
 pub mod TreeLaws
 pub mod StatementLaws

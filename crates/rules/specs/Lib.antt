@@ -3,6 +3,7 @@ pub mod Limits
 pub mod Rows
 pub mod Trees
 pub mod Judging
+pub mod Lowest
 pub mod Sound
 pub mod OnePass
 pub mod Marks
