@@ -1,4 +1,4 @@
--- Document 01's whole case.
+-- Document 01's whole case, and jobs that are refused, byte by byte.
 use Prim.Native.Nat.{ℕ}
 use mathlib.Core.List.{List, [], _∷_}
 use mathlib.Core.Path.{_≡_}
@@ -57,3 +57,49 @@ wholeReport =
 -- The claim: the report of the input's bytes is the output's bytes.
 abbrev pub WholeCase : Type 0
 WholeCase = jobReport wholeText ≡ wholeReport
+
+-- a job that ends after its second line
+abbrev faultyText : List ℕ
+faultyText =
+    -- budget=10
+    98 ∷ 117 ∷ 100 ∷ 103 ∷ 101 ∷ 116 ∷ 61 ∷ 49 ∷ 48 ∷ 10 ∷
+    -- room=2
+    114 ∷ 111 ∷ 111 ∷ 109 ∷ 61 ∷ 50 ∷ 10 ∷ []
+
+-- "a missing line is 7 at the number it would have"
+abbrev faultyReport : List ℕ
+faultyReport =
+    -- refused=7
+    114 ∷ 101 ∷ 102 ∷ 117 ∷ 115 ∷ 101 ∷ 100 ∷ 61 ∷ 55 ∷ 10 ∷
+    -- at=3
+    97 ∷ 116 ∷ 61 ∷ 51 ∷ 10 ∷ []
+
+-- a job whose table has a sequence that is its own child
+abbrev refusedText : List ℕ
+refusedText =
+    -- budget=10
+    98 ∷ 117 ∷ 100 ∷ 103 ∷ 101 ∷ 116 ∷ 61 ∷ 49 ∷ 48 ∷ 10 ∷
+    -- room=0
+    114 ∷ 111 ∷ 111 ∷ 109 ∷ 61 ∷ 48 ∷ 10 ∷
+    -- levels=0
+    108 ∷ 101 ∷ 118 ∷ 101 ∷ 108 ∷ 115 ∷ 61 ∷ 48 ∷ 10 ∷
+    -- inputs=0
+    105 ∷ 110 ∷ 112 ∷ 117 ∷ 116 ∷ 115 ∷ 61 ∷ 48 ∷ 10 ∷
+    -- rows=2
+    114 ∷ 111 ∷ 119 ∷ 115 ∷ 61 ∷ 50 ∷ 10 ∷
+    -- row=0,0,0,0
+    114 ∷ 111 ∷ 119 ∷ 61 ∷ 48 ∷ 44 ∷ 48 ∷ 44 ∷ 48 ∷ 44 ∷ 48 ∷ 10 ∷
+    -- row=2,0,1,0
+    114 ∷ 111 ∷ 119 ∷ 61 ∷ 50 ∷ 44 ∷ 48 ∷ 44 ∷ 49 ∷ 44 ∷ 48 ∷ 10 ∷ []
+
+-- "Then 1 to 5 apply."
+abbrev refusedReport : List ℕ
+refusedReport =
+    -- refused=3
+    114 ∷ 101 ∷ 102 ∷ 117 ∷ 115 ∷ 101 ∷ 100 ∷ 61 ∷ 51 ∷ 10 ∷
+    -- at=1
+    97 ∷ 116 ∷ 61 ∷ 49 ∷ 10 ∷ []
+
+-- The claim: "A refusal prints `refused=` and `at=`, a line each."
+abbrev pub RefusedCases : Type 0
+RefusedCases = (jobReport faultyText ≡ faultyReport) × (jobReport refusedText ≡ refusedReport)

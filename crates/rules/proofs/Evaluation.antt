@@ -11,7 +11,7 @@ use Rattle.rules.specs.Answers.{judgement, answered, termsOf, answer, tr
 use Rattle.rules.specs.Cases.{wordsOf, memoryOf, answerTo, resultOf, recordless}
 use Rattle.rules.specs.Starred.{starred, Starred}
 use Rattle.rules.specs.Further.{further, Further}
-use Rattle.rules.specs.Refusals.{grown, judgements, traced, longest, CaseJ, CaseK, Longest}
+use Rattle.rules.specs.Refusals.{operations, grown, judgements, traced, longest, CaseJ, CaseK, Longest}
 
 -- Whoever unfolds this unfolds every rule.
 unfoldable pub rules : Unit {0}
@@ -27,8 +27,8 @@ unfolding rules further
 further-met = refl
 
 pub J-met : CaseJ
-unfolding rules
-J-met = (refl, refl, refl)
+unfolding rules operations
+J-met = refl
 
 pub K-met : CaseK
 unfolding rules grown judgements traced

@@ -1,9 +1,10 @@
--- Runs that A to I do not cover, with everything that is expected of each: L to P, the document's whole case, and a
--- denied output with no budget left.
+-- Runs that A to I do not cover, with everything that is expected of each: L to P, the document's whole case, a denied
+-- output with no budget left, and runs that are refused.
 use Prim.Native.Nat.{ℕ}
 use mathlib.Core.List.{List, [], _∷_}
-use Rattle.rules.specs.Answers.{verdict, pass, fail}
-use Rattle.rules.specs.Cases.{Quad, memoryOf, Case, Met, usual, usualMarks, usualTrace, recordless}
+use lib.ListN.{replicate}
+use Rattle.rules.specs.Answers.{verdict, refused, pass, fail}
+use Rattle.rules.specs.Cases.{Quad, memoryOf, Case, Met, usual, usualMarks, usualBudget, usualTrace, recordless}
 
 -- L. v1:=0; if v0 then (if v2 then v1:=1 else skip) else skip; output settled v1
 abbrev tableL : List Quad
@@ -54,6 +55,14 @@ tableWhole = (9, 0, 0, 0) ∷ (5, 0, 0, 0) ∷ (9, 1, 0, 0) ∷ (5, 1, 2, 0) ∷
 abbrev tableDenied : List Quad
 tableDenied = (9, 0, 0, 0) ∷ (5, 0, 0, 0) ∷ []
 
+-- v0:=0
+abbrev tableSettled : List Quad
+tableSettled = (8, 0, 0, 0) ∷ (1, 0, 0, 0) ∷ []
+
+-- a skip that is a child of no row, and v0:=0
+abbrev tableRefused : List Quad
+tableRefused = (0, 0, 0, 0) ∷ (8, 0, 0, 0) ∷ (1, 0, 1, 0) ∷ []
+
 -- v0 is 1, and the other variables are 0
 abbrev one : List ℕ
 one = 1 ∷ []
@@ -101,8 +110,27 @@ runDenied =
     (record { table = tableDenied; memory = one; marks = usualMarks; budget = 0; trace = usualTrace })
     (verdict 2 0) 0 one 1 (fail 1) 1
 
+-- "A refused run answers its number and row instead of verdict and place, with 0 steps and 0 records, returns memory and
+-- marks as given and writes no trace word. The level check .. then returns its marks as given."
+abbrev runRefused : Case
+runRefused = recordless (usual tableRefused one) (refused 4 0) 0 one 1 (refused 4 0) 1
+
+-- one trace word too many: 6 for the run, nothing for the level check
+abbrev runOversized : Case
+runOversized =
+    recordless
+    (record { table = tableSettled; memory = one; marks = usualMarks; budget = usualBudget; trace = replicate 16385 0 })
+    (refused 6 0) 0 one 1 pass 0
+
+-- "The lowest number from 1 to 6 that applies anywhere is given": 4 before 6
+abbrev runBoth : Case
+runBoth =
+    recordless
+    (record { table = tableRefused; memory = one; marks = usualMarks; budget = usualBudget; trace = replicate 16385 0 })
+    (refused 4 0) 0 one 1 (refused 4 0) 1
+
 unfoldable pub further : List Case
-further = runL ∷ runM ∷ runN ∷ runO ∷ runP ∷ runWhole ∷ runDenied ∷ []
+further = runL ∷ runM ∷ runN ∷ runO ∷ runP ∷ runWhole ∷ runDenied ∷ runRefused ∷ runOversized ∷ runBoth ∷ []
 
 -- The claim: every one of these runs comes out whole as expected.
 abbrev pub Further : Type 0

@@ -13,11 +13,35 @@ use Rattle.rules.specs.LevelCheck.{walk}
 use Rattle.rules.specs.Answers.{Said, accepted, refused, verdict, judgement, inputs, answer, reached, termsOf}
 use Rattle.rules.specs.Cases.{Quad, wordsOf, memoryOf}
 
+-- an operator, its two sides, and the value that they give
+abbrev pub Operation : Type 0
+Operation = Operator × ℕ × ℕ × ℕ
+
 -- J. "4,294,967,295 + 1 = 0; 0 - 1 = 4,294,967,295; 5 / 0 = 0."
+abbrev caseJ : List Operation
+caseJ = (Operator.Sum, 4294967295, 1, 0) ∷ (Operator.Difference, 0, 1, 4294967295) ∷ (Operator.Quotient, 5, 0, 0) ∷ []
+
+-- "2 product (all modulo 2^32), 3 whole quotient, .. 4 equal, 5 less (both give 1 or 0)"
+abbrev otherOperations : List Operation
+otherOperations =
+    (Operator.Product, 4294967295, 4294967295, 1)
+    ∷ (Operator.Product, 4294967295, 2, 4294967294)
+    ∷ (Operator.Product, 3, 5, 15)
+    ∷ (Operator.Quotient, 7, 2, 3)
+    ∷ (Operator.Equal, 2, 2, 1)
+    ∷ (Operator.Equal, 1, 2, 0)
+    ∷ (Operator.Equal, 2, 1, 0)
+    ∷ (Operator.Less, 1, 2, 1)
+    ∷ (Operator.Less, 2, 1, 0)
+    ∷ (Operator.Less, 2, 2, 0)
+    ∷ []
+
+unfoldable pub operations : List Operation
+operations = caseJ ++ otherOperations
+
+-- The claim: every operation gives the value that is expected.
 abbrev pub CaseJ : Type 0
-CaseJ =
-    (operate Operator.Sum 4294967295 1 ≡ 0) × (operate Operator.Difference 0 1 ≡ 4294967295)
-    × (operate Operator.Quotient 5 0 ≡ 0)
+CaseJ = map (λ (o : Operation). operate (o .0) (o .1) (o .2)) operations ≡ map (λ (o : Operation). o .3) operations
 
 -- a table that is grown row by row: level adds rows on top of a table whose last row it is given
 unfoldable pub grown : ℕ → (ℕ → List Quad) → List Quad → List Quad
@@ -84,8 +108,11 @@ badTables =
     ∷ table ((8, 0, 0, 0) ∷ (5, 0, 0, 0) ∷ (5, 1, 0, 0) ∷ (2, 1, 2, 0) ∷ []) (refused 4 0)
     ∷ table ((8, 1, 0, 0) ∷ (10, 0, 0, 0) ∷ (5, 0, 1, 0) ∷ []) (refused 4 0)
     ∷ table ((8, 1, 0, 0) ∷ []) (refused 4 0)
-    -- the lowest number comes before the lowest row
+    -- the lowest number comes before the lowest row: 1 before 2, 2 before 3, 3 before 4, 4 before 5
+    ∷ record { words = 7 ∷ 0 ∷ 0 ∷ 0 ∷ 0 ∷ []; said = refused 1 0 }
     ∷ table ((0, 0, 0, 0) ∷ (2, 0, 1, 0) ∷ (7, 0, 0, 0) ∷ []) (refused 2 2)
+    ∷ table ((0, 0, 0, 0) ∷ (2, 1, 1, 0) ∷ []) (refused 3 1)
+    ∷ table (high 16 ++ ((0, 0, 0, 0) ∷ [])) (refused 4 33)
     ∷ []
 
 unfoldable pub judgements : List Judgement
