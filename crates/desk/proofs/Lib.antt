@@ -1,2 +1,3 @@
 pub mod Evaluation
 pub mod DeskLaws
+pub mod Claims

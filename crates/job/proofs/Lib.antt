@@ -3,3 +3,4 @@ pub mod FillLaws
 pub mod JobLaws
 pub mod ToldLaws
 pub mod RoundTrip
+pub mod Claims

@@ -2,3 +2,4 @@ pub mod Limits
 pub mod Jobs
 pub mod Cases
 pub mod Read
+pub mod Claims

@@ -2,3 +2,4 @@
 pub mod GoingLaws
 pub mod CallLaws
 pub mod AgainLaws
+pub mod Claims

@@ -1,3 +1,4 @@
 pub mod Evaluation
 pub mod WriteLaws
 pub mod ReportLaws
+pub mod Claims

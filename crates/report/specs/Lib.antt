@@ -1,3 +1,4 @@
 pub mod Reports
 pub mod Written
 pub mod Cases
+pub mod Claims

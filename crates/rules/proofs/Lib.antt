@@ -16,3 +16,4 @@ pub mod PlainLaws
 pub mod LevelLaws
 pub mod AnswerLaws
 pub mod Evaluation
+pub mod Claims

@@ -18,3 +18,4 @@ pub mod Cases
 pub mod Starred
 pub mod Further
 pub mod Refusals
+pub mod Claims

@@ -16,7 +16,7 @@ use Rattle.rules.specs.LevelRules.{failing}
 use Rattle.rules.specs.LevelCheck.{checkedOf}
 use Rattle.rules.specs.Answers.{refused, saidOfRun, saidOfCheck, Whole, Inputs, termsOf, answer, traceWordsOf, JudgeAnswers, RunAnswers, Advised, advisedOf, CheckAnswers}
 use Rattle.rules.proofs.RunInvariants.{run-unrefused}
-use Rattle.rules.proofs.AnswerLaws.{startOf, answer-refused, answer-oversized, answer-ran, told-said, told-steps, told-records, told-memory, told-marks, trace-after-law, trace-words-cons, advice-refused, judged-unique, ended-unique, checked-unique, said-judged, judged-as}
+use Rattle.rules.proofs.AnswerLaws.{startOf, answer-refused, answer-oversized, answer-ran, shown-law, told-said, told-steps, told-records, told-memory, told-marks, trace-after-law, trace-words-cons, advice-refused, judged-unique, ended-unique, checked-unique, said-judged, judged-as}
 use Rattle.safety.specs.Demands.{Names, SameRun, unwatched, EitherBegins, SameToTheStations}
 use Rattle.safety.specs.Calls.{recordsIn, wholeOf, CallIsTheAnswer, CallJudges, Returned, CallEnds, CallIsRefusedAsJudged, CheckIsLeast, CheckIsRefusedAsJudged, CallIsUnwatched, CallsShowTheSame, CallIsNeverStopped}
 use Rattle.safety.proofs.Demand1.{ends-within-budget, refusals-touch-nothing}
@@ -89,7 +89,7 @@ call-is-refused-as-judged i judged a after said called = record {
   oversized = λ e over. ended-as i a after called (Ended.Refused 6 0) _ (answer-oversized i (judged-as (i .words) said e) over) refl;
   admitted = λ e fits number row f.
       run-unrefused (termsOf (length (i .trace))) (i .budget) (startOf (i .words) (i .memory) (i .marks)) number row
-      (sym (ap (λ (x : Whole). x .said) (answer-ran i (judged-as (i .words) said e) fits)) ∙ answer-said i a after called (Ended.Refused number row) f);
+      (sym (ap (λ (x : Whole). x .said) (answer-ran i (judged-as (i .words) said e) fits ∙ shown-law i)) ∙ answer-said i a after called (Ended.Refused number row) f);
 }
 
 -- ---- Demand 2

@@ -9,3 +9,4 @@ pub mod Permissive
 pub mod Bounds
 pub mod Examples
 pub mod Calls
+pub mod Claims

@@ -3,3 +3,4 @@ pub mod Stations
 pub mod Demands
 pub mod Examples
 pub mod Calls
+pub mod Claims

@@ -3,3 +3,4 @@ pub mod ArrayLaws
 pub mod StepLaws
 pub mod ArmLaws
 pub mod OpenLaws
+pub mod Claims

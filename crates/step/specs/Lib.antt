@@ -2,3 +2,4 @@
 pub mod Denoted
 pub mod Turns
 pub mod Open
+pub mod Claims
