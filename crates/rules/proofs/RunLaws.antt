@@ -1,16 +1,16 @@
 -- The step equations of the run: what comes of going on with a state whose next item is known, and what a run from there goes
 -- on as, or how it ends. Proofs about runs cite these and do not unfold the run.
 use Prim.Native.Nat.{ℕ, zero, suc}
-use mathlib.Core.Bool.{Bool, true, false, _||_, _&&_}
+use mathlib.Core.Bool.{Bool, true, false, _||_}
 use mathlib.Core.List.{List, [], _∷_}
 use mathlib.Core.Path.{_≡_, refl, ap, ap₂, _∙_}
-use lib.Dec.{eqb, ltb}
+use lib.Dec.{ltb}
 use lib.ListN.{length, set}
 use Rattle.rules.specs.declared.Ended.{Ended}
 use Rattle.rules.specs.Marks.{none, put, union, provisional}
 use Rattle.rules.specs.Trees.{Expr, Stmt, skip, assign, sequence, if, while, output}
 use Rattle.rules.specs.Values.{value, holds, level, mayAssign}
-use Rattle.rules.specs.Running.{Item, statement, close, Log, State, state, Terms, context, guarded, push, counted, noted, skipped, assigned, opened, branched, turned, closedMarks, popped, closed, recorded, Attempt, finished, denied, roomless, taken, isDenied, outputAttempt, begin, attempt, attempted, Outcome, outcome, atBudget, follow, run}
+use Rattle.rules.specs.Running.{Item, statement, close, Log, State, state, Terms, context, guarded, push, counted, noted, skipped, assigned, opened, branched, turned, closedMarks, popped, closed, recorded, Attempt, finished, denied, roomless, taken, denies, isDenied, outputAttempt, begin, attempt, attempted, Outcome, outcome, atBudget, follow, run}
 use Rattle.rules.specs.Answers.{Whole, reached, final}
 
 -- ---- what is pending matters to a step only by the item that it is taken from
@@ -103,19 +103,19 @@ module _ (terms : Terms) (k : List Item) (m : List ℕ) (l : ℕ) (p : List ℕ)
     looked deny room = outputAttempt deny room row (recorded channel e k (state (statement (output channel e row) ∷ k) m l p g))
 
     pub attempt-denied :
-        (eqb channel 0 && (provisional (level l e) || context p)) ≡ true
+        denies channel e l p ≡ true
         → attempted terms (state (statement (output channel e row) ∷ k) m l p g) ≡ denied row
     unfolding attempt begin outputAttempt isDenied guarded looked
     attempt-denied deny = ap (λ (b : Bool). looked b (ltb (length (g .records)) (terms .room))) deny
 
     pub attempt-roomless :
-        (eqb channel 0 && (provisional (level l e) || context p)) ≡ false → ltb (length (g .records)) (terms .room) ≡ false
+        denies channel e l p ≡ false → ltb (length (g .records)) (terms .room) ≡ false
         → attempted terms (state (statement (output channel e row) ∷ k) m l p g) ≡ roomless row
     unfolding attempt begin outputAttempt isDenied guarded looked
     attempt-roomless pass room = ap₂ looked pass room
 
     pub attempt-record :
-        (eqb channel 0 && (provisional (level l e) || context p)) ≡ false → ltb (length (g .records)) (terms .room) ≡ true
+        denies channel e l p ≡ false → ltb (length (g .records)) (terms .room) ≡ true
         → attempted terms (state (statement (output channel e row) ∷ k) m l p g)
         ≡ taken (state k m l p (noted (record { channel = channel; value = value m e }) g))
     unfolding attempt begin outputAttempt isDenied guarded looked recorded
@@ -224,19 +224,19 @@ module _ (terms : Terms) (k : List Item) (m : List ℕ) (l : ℕ) (p : List ℕ)
 
     module _ (channel : ℕ) (e : Expr) (row : ℕ) where
       pub run-denied :
-          (eqb channel 0 && (provisional (level l e) || context p)) ≡ true
+          denies channel e l p ≡ true
           → final terms (suc budget) (state (statement (output channel e row) ∷ k) m l p g)
           ≡ reached (outcome (Ended.Stopped row) (state k m l p g))
       run-denied deny = ap reached (run-stopped terms budget _ row (attempt-denied terms k m l p g channel e row deny))
 
       pub run-roomless :
-          (eqb channel 0 && (provisional (level l e) || context p)) ≡ false → ltb (length (g .records)) (terms .room) ≡ false
+          denies channel e l p ≡ false → ltb (length (g .records)) (terms .room) ≡ false
           → final terms (suc budget) (state (statement (output channel e row) ∷ k) m l p g)
           ≡ reached (outcome (Ended.NoRoom row) (state k m l p g))
       run-roomless pass room = ap reached (run-full terms budget _ row (attempt-roomless terms k m l p g channel e row pass room))
 
       pub run-record :
-          (eqb channel 0 && (provisional (level l e) || context p)) ≡ false → ltb (length (g .records)) (terms .room) ≡ true
+          denies channel e l p ≡ false → ltb (length (g .records)) (terms .room) ≡ true
           → final terms (suc budget) (state (statement (output channel e row) ∷ k) m l p g)
           ≡ final terms budget (state k m l p (noted (record { channel = channel; value = value m e }) g))
       run-record pass room = shows _ _ (attempt-record terms k m l p g channel e row pass room)

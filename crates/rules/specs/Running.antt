@@ -156,8 +156,11 @@ pub data Attempt : Type 0 where
 
 -- "output on channel 1: a record. Output on channel 0: a record if expression and context are settled; otherwise the
 -- monitor stops the run."
+abbrev pub denies : ℕ → Expr → ℕ → List ℕ → Bool
+denies channel e marks pile = eqb channel 0 && (provisional (level marks e) || context pile)
+
 unfoldable pub isDenied : ℕ → Expr → State → Bool
-isDenied channel e σ = eqb channel 0 && guarded e σ
+isDenied channel e σ = denies channel e (σ .marks) (σ .pile)
 
 -- "else a denied output gives 1; else an output without room gives 3; else the step is taken": whether the output is
 -- denied, and whether there is room for one record more

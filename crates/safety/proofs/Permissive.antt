@@ -16,7 +16,7 @@ use Rattle.rules.specs.Trees.{Expr, Stmt, skip, assign, sequence, if, while, ou
 use Rattle.rules.specs.Judging.{judge}
 use Rattle.rules.specs.Marks.{none, only, put, union, _⊆_, provisional}
 use Rattle.rules.specs.Values.{holds, level, mayAssign}
-use Rattle.rules.specs.Running.{Item, statement, close, Log, state, blank, Terms, context, push, counted}
+use Rattle.rules.specs.Running.{Item, statement, close, Log, state, blank, Terms, context, push, counted, denies}
 use Rattle.rules.specs.LevelRules.{under, Choice, result, Solves, failing}
 use Rattle.rules.specs.LevelCheck.{walk, checkedOf}
 use Rattle.rules.specs.Answers.{verdict, pass, Whole, final, answer, termsOf, Advised, advice}
@@ -219,7 +219,7 @@ module _ (terms : Terms) where
         → Covered (statement (output channel e place) ∷ k) p cover → (row : ℕ)
         → final terms (suc b) (state (statement (output channel e place) ∷ k) m l p g) .said ≡ verdict 1 row → ⊥
     unstopped-output channel e place m l p g cover sub (c, choice, after, ctx, solves, passes, low, cov) row =
-        by (eqb channel 0 && (provisional (level l e) || context p)) (ltb (length (g .records)) (terms .room)) refl refl
+        by (denies channel e l p) (ltb (length (g .records)) (terms .room)) refl refl
       where
         contradiction : (x y z : Bool) → (x && y) ≡ true → (y ≡ true → z ≡ true) → cond (x && z) (place ∷ []) [] ≡ [] → ⊥
         contradiction true true true h f e = let q : _≡_ {A = ℕ} 0 1 = cc in omega arith
@@ -228,7 +228,7 @@ module _ (terms : Terms) where
         contradiction false y z h f e = true≢false (sym h)
 
         by :
-            (deny room : Bool) → (eqb channel 0 && (provisional (level l e) || context p)) ≡ deny → ltb (length (g .records)) (terms .room) ≡ room
+            (deny room : Bool) → (denies channel e l p) ≡ deny → ltb (length (g .records)) (terms .room) ≡ room
             → final terms (suc b) (state (statement (output channel e place) ∷ k) m l p g) .said ≡ verdict 1 row → ⊥
         by true room h fits =
             λ d.

@@ -13,7 +13,7 @@ use Rattle.rules.specs.declared.Ended.{Ended}
 use Rattle.rules.specs.Marks.{none, has, put, only, union, provisional}
 use Rattle.rules.specs.Trees.{Expr, Stmt, skip, assign, sequence, if, while, output}
 use Rattle.rules.specs.Values.{value, holds, level, mayAssign}
-use Rattle.rules.specs.Running.{Item, statement, close, Record, Log, state, Terms, context, push, counted, noted, outcome}
+use Rattle.rules.specs.Running.{Item, statement, close, Record, Log, state, Terms, context, push, counted, noted, outcome, denies}
 use Rattle.rules.specs.Answers.{verdict, Whole, reached, final}
 use Rattle.rules.proofs.MarkLaws.{has-only-same, union-none-right, union-comm, union-assoc, union-self, put-union, not-in-union, subset-union-left}
 use Rattle.rules.proofs.AgreeLaws.{level-rises}
@@ -254,15 +254,15 @@ module _ (terms : Terms) where
       → eqb channel 0 ≡ zeroth
       → Passed terms none k m l (top ∷ p) (g .records) (suc b) (final terms (suc b) (state (statement (output channel e row) ∷ k) m l (top ∷ p) g))
   output-region channel e row b k m l top p g true h =
-      let denies : (eqb channel 0 && (provisional (level l e) || true)) ≡ true =
+      let deny : denies channel e l (top ∷ p) ≡ true =
       ap₂ (λ (x y : Bool). x && y) h (or-true (provisional (level l e)))
       in
-      let w = run-denied terms k m l (top ∷ p) g b channel e row denies in
+      let w = run-denied terms k m l (top ∷ p) g b channel e row deny in
       ends (λ d. not-done 1 row (omega arith) (sym (ap (λ (x : Whole). x .said) w) ∙ d))
       (ap (λ (x : Whole). settledRecords (x .records)) w)
   output-region channel e row b k m l top p g false h = by (ltb (length (g .records)) (terms .room)) refl
     where
-      passes : (eqb channel 0 && (provisional (level l e) || true)) ≡ false
+      passes : denies channel e l (top ∷ p) ≡ false
       passes = ap (λ (x : Bool). x && (provisional (level l e) || true)) h
 
       by :

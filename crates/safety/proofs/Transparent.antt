@@ -10,7 +10,7 @@ use Rattle.rules.specs.Marks.{provisional}
 use Rattle.rules.specs.Rows.{rowsOf}
 use Rattle.rules.specs.Trees.{Expr, Stmt, skip, assign, sequence, if, while, output, recipe}
 use Rattle.rules.specs.Values.{holds, level}
-use Rattle.rules.specs.Running.{Item, statement, close, Log, state, blank, Terms, context, counted}
+use Rattle.rules.specs.Running.{Item, statement, close, Log, state, blank, Terms, context, counted, denies}
 use Rattle.rules.specs.Unwatched.{Plain, PlainOutcome, plainRun}
 use Rattle.rules.specs.Answers.{refused, verdict, Whole, final, answer, termsOf}
 use Rattle.rules.proofs.RunLaws.{run-done, run-spent, run-sequence, run-skip, run-assign, run-close-empty, run-close, run-then, run-else, run-turn, run-leave, run-denied, run-roomless, run-record}
@@ -64,10 +64,10 @@ module _ (terms : Terms) where
         moved _ _ _ _ (run-leave terms k m l p g b e s h) (plain-while m _ _ b k e s false h) (onward (close ∷ k) m l _ (counted g))
 
     agrees-output : (channel : ℕ) (e : Expr) (row : ℕ) → Agrees terms (suc b) (statement (output channel e row) ∷ k)
-    agrees-output channel e row m l p g d = by (eqb channel 0 && (provisional (level l e) || context p)) (ltb (length (g .records)) (terms .room)) refl refl
+    agrees-output channel e row m l p g d = by (denies channel e l p) (ltb (length (g .records)) (terms .room)) refl refl
       where
         by :
-            (deny room : Bool) → (eqb channel 0 && (provisional (level l e) || context p)) ≡ deny → ltb (length (g .records)) (terms .room) ≡ room
+            (deny room : Bool) → (denies channel e l p) ≡ deny → ltb (length (g .records)) (terms .room) ≡ room
             → SameRun (final terms (suc b) (state (statement (output channel e row) ∷ k) m l p g))
             (plainRun (suc b) (beside (statement (output channel e row) ∷ k) m g))
         by true room h fits =

@@ -13,7 +13,7 @@ use borrow.Author.Tests.{eqb-true, eqb-false, ltb-true, ltb-false}
 use Rattle.rules.specs.Marks.{has, put, union, provisional}
 use Rattle.rules.specs.Trees.{Expr, Stmt, skip, assign, sequence, if, while, output}
 use Rattle.rules.specs.Values.{value, holds, level, mayAssign}
-use Rattle.rules.specs.Running.{Item, statement, close, Record, Log, state, Terms, push, counted}
+use Rattle.rules.specs.Running.{Item, statement, close, Record, Log, state, Terms, push, counted, denies}
 use Rattle.rules.specs.Answers.{verdict, Whole, final}
 use Rattle.rules.proofs.MarkLaws.{has-put-same, has-put-other, not-in-union}
 use Rattle.rules.proofs.AgreeLaws.{value-agree, holds-agree}
@@ -138,7 +138,7 @@ related-assign v e l m r m′ r′ related = record {
 -- an output that is not denied
 related-record :
     (channel : ℕ) (e : Expr) (l : ℕ) (m : List ℕ) (r : List Record) (m′ : List ℕ) (r′ : List Record)
-    → (eqb channel 0 && (provisional (level l e) || false)) ≡ false → Related l m r m′ r′
+    → (denies channel e l []) ≡ false → Related l m r m′ r′
     → Related l m (r ++ (record { channel = channel; value = value m e } ∷ [])) m′ (r′ ++ (record { channel = channel; value = value m′ e } ∷ []))
 related-record channel e l m r m′ r′ passes related = record {
   long = related .long;
@@ -287,7 +287,7 @@ module _ (terms terms′ : Terms) where
         by false known = settled (holds m e) known refl
 
     both-output : (channel : ℕ) (e : Expr) (row : ℕ) → Runs (suc b) (suc b′) (statement (output channel e row) ∷ k)
-    both-output channel e row m l g m′ g′ related = by (eqb channel 0 && (provisional (level l e) || false)) refl
+    both-output channel e row m l g m′ g′ related = by (denies channel e l []) refl
       where
         item : Item
         item = statement (output channel e row)
@@ -299,7 +299,7 @@ module _ (terms terms′ : Terms) where
         more′ = grows terms′ (suc b′) (item ∷ k) m′ l [] g′
 
         room′ :
-            (x : Bool) → (eqb channel 0 && (provisional (level l e) || false)) ≡ false → ltb (length (g .records)) (terms .room) ≡ true → ltb (length (g′ .records)) (terms′ .room) ≡ x
+            (x : Bool) → (denies channel e l []) ≡ false → ltb (length (g .records)) (terms .room) ≡ true → ltb (length (g′ .records)) (terms′ .room) ≡ x
             → Alike (final terms (suc b) (state (item ∷ k) m l [] g)) (final terms′ (suc b′) (state (item ∷ k) m′ l [] g′))
         room′ true passes h h′ =
             moved _ _ _ _ (run-record terms k m l [] g b channel e row passes h) (run-record terms′ k m′ l [] g′ b′ channel e row passes h′)
@@ -310,7 +310,7 @@ module _ (terms terms′ : Terms) where
             (ap (λ (x : Whole). settledRecords (x .records)) w) (related .seen) more
 
         room :
-            (x : Bool) → (eqb channel 0 && (provisional (level l e) || false)) ≡ false → ltb (length (g .records)) (terms .room) ≡ x
+            (x : Bool) → (denies channel e l []) ≡ false → ltb (length (g .records)) (terms .room) ≡ x
             → Alike (final terms (suc b) (state (item ∷ k) m l [] g)) (final terms′ (suc b′) (state (item ∷ k) m′ l [] g′))
         room true passes h = room′ (ltb (length (g′ .records)) (terms′ .room)) passes h refl
         room false passes h =
@@ -319,7 +319,7 @@ module _ (terms terms′ : Terms) where
             (ap (λ (x : Whole). settledRecords (x .records)) w) (related .seen) more′
 
         by :
-            (x : Bool) → (eqb channel 0 && (provisional (level l e) || false)) ≡ x
+            (x : Bool) → (denies channel e l []) ≡ x
             → Alike (final terms (suc b) (state (item ∷ k) m l [] g)) (final terms′ (suc b′) (state (item ∷ k) m′ l [] g′))
         by true denies =
             let w = run-denied terms k m l [] g b channel e row denies in
