@@ -104,7 +104,8 @@ may-assign-may-assign-requires-3 t c κs =
 
 may-assign-may-assign-requires-4 : (t : ℕ) → may-assign-lts.Need-may-assign-lent-requires-4 (calls t) (may-assign-at t) may-assign.Post
 may-assign-may-assign-requires-4 t c κs =
-    below t (c .before .before .before) (if-words (words-as t (c .before .before .before) (c .before .enum-told3 .given .1)) .2)
+    let words = if-words (words-as t (c .before .before .before) (c .before .enum-told3 .given .1)) in
+    below t (c .before .before .before) (omega (arith, words .1, words .2))
 
 may-assign-joined-requires-2 : (t : ℕ) → may-assign-lts.Need-joined-requires-2 (calls t) (may-assign-at t) may-assign.Post
 may-assign-joined-requires-2 t c κs = tt
@@ -114,7 +115,8 @@ may-assign-enum-told-4 t c = search needs
 
 may-assign-may-assign-requires-5 : (t : ℕ) → may-assign-lts.Need-may-assign-lent-requires-5 (calls t) (may-assign-at t) may-assign.Post
 may-assign-may-assign-requires-5 t c κs =
-    below t (c .before .before) (while-words (words-as t (c .before .before) (c .enum-told4 .given .1)) .1)
+    let words = while-words (words-as t (c .before .before) (c .enum-told4 .given .1)) in
+    below t (c .before .before) (omega (arith, words .0, words .1))
 
 may-assign-returns : (t : ℕ) → may-assign-lts.Need-returns (calls t) (may-assign-at t) may-assign.Post
 may-assign-returns t c =

@@ -1,5 +1,8 @@
 -- `expression::assigned::assigned_at` meets its contract: refused as judged, none for a row that is not there, else what `may_assign` finds.
+use Prim.Native.Nat.{_<_}
 use mathlib.Core.Path.{_≡_, refl, sym, ap, ap₂, _∙_}
+use native.Mathlib.Omega.{arith}
+use lib.ListN.{length}
 use borrow.Author.Tests.{ltb-true, ltb-false, not-true, not-false}
 use Rattle.rules.specs.declared.Judged.{Judged}
 use Rattle.rules.specs.Rows.{rowsOf}
@@ -47,7 +50,9 @@ returns-2 c =
 may-assign-requires : tie.Need-may-assign-requires
 may-assign-requires c κs =
     let told = c .before .before in
-    (accepted-sound (told .before .before .before .before .args .table .now) (accepted told), ltb-true _ _ (sym (c .before .has-row .ensures) ∙ not-false _ (c .if1 .left)))
+    let a = told .before .before .before .before .args in
+    let known : a .row < length (rowsOf (a .table .now)) = ltb-true _ _ (sym (c .before .has-row .ensures) ∙ not-false _ (c .if1 .left)) in
+    (accepted-sound (a .table .now) (accepted told), omega (arith, known))
 
 returns-3 : tie.Need-returns-3
 returns-3 c = sym (ap₂ variablesOr (accepted (c .before .before .before)) (sym (c .may-assign .ensures)))

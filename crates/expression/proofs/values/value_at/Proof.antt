@@ -1,6 +1,8 @@
 -- `expression::values::value_at` meets its contract: refused as judged, the constant 0 for a row that is not there, else what `evaluate` finds.
+use Prim.Native.Nat.{_<_}
 use mathlib.Core.Path.{_≡_, refl, sym, ap, ap₂, _∙_}
 use lib.ListN.{length}
+use native.Mathlib.Omega.{arith}
 use borrow.Author.Tests.{ltb-true, ltb-false, not-true, not-false}
 use Rattle.rules.specs.declared.Judged.{Judged}
 use Rattle.rules.specs.Limits.{width}
@@ -55,7 +57,8 @@ evaluate-requires c κs =
     let there = c .before .before in
     let told = there .before .before in
     let start = told .before .before .before .before in
-    (accepted-sound (start .args .table .now) (accepted told), ltb-true _ _ (sym (there .before .has-row .ensures) ∙ not-false _ (there .if1 .left)), long start)
+    let known : start .args .row < length (rowsOf (start .args .table .now)) = ltb-true _ _ (sym (there .before .has-row .ensures) ∙ not-false _ (there .if1 .left)) in
+    (accepted-sound (start .args .table .now) (accepted told), omega (arith, known), long start)
 
 returns-3 : tie.Need-returns-3
 returns-3 c = sym (ap₂ foundOr (accepted (c .before .before .before .before .before)) (sym (c .evaluate .ensures)))
