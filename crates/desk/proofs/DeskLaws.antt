@@ -14,7 +14,8 @@ use Rattle.job.specs.Limits.{tableWords, mostRoom}
 use Rattle.job.specs.declared.Read.{Read}
 use Rattle.job.specs.declared.Reading.{Reading}
 use Rattle.job.specs.Jobs.{Told, told, untold, readJob}
-use Rattle.job.specs.Read.{filled, reading}
+use Rattle.job.specs.Read.{filled, ReadingSaid, saidOfReading, reading}
+use Rattle.job.proofs.JobLaws.{read-unique}
 use Rattle.report.specs.Reports.{refusalText, report}
 use Rattle.report.specs.Written.{placedIn, recordsOf, wholeOf, reportWritten}
 use Rattle.report.proofs.ReportLaws.{report-placed}
@@ -97,28 +98,28 @@ pub record Handed (text : List ℕ) (r : Reading) (budget room marks rows : ℕ)
   pub words : rowWords * rows ≤ length (r .table)
   pub reported : report (answer (inputs (take (rowWords * rows) (r .table)) (r .memory .words) marks budget (replicate (recordWords * room) 0))) ≡ jobReport text
 
-module _ (text : List ℕ) (r : Reading) (read : r ≡ reading (readJob text)) where
+module _ (text : List ℕ) (r : Reading) (read : saidOfReading r ≡ reading (readJob text)) where
   pub handed-on : (budget room marks rows : ℕ) → r .read ≡ Read.Job budget room marks rows → Handed text r budget room marks rows
   unfolding reading filled jobReport toldReport jobAnswer
   handed-on budget room marks rows h = by (readJob text) refl read
     where
-      by : (t : Told) → t ≡ readJob text → r ≡ reading t → Handed text r budget room marks rows
+      by : (t : Told) → t ≡ readJob text → saidOfReading r ≡ reading t → Handed text r budget room marks rows
       by (untold refusal at) e same =
-          let i : r .read ≡ Read.Refused refusal at = ap (λ (x : Reading). x .read) same in
+          let i : r .read ≡ Read.Refused refusal at = read-unique (r .read) _ (ap (λ (x : ReadingSaid). x .said) same) in
           let z : _≡_ {A = ℕ} 0 1 = cc in
           absurd (omega arith)
       by (told job) e same =
           let fits = told-fits text job e in
-          let i : r .read ≡ Read.Job (job .budget) (job .room) (job .marks) (length (job .table) / rowWords) = ap (λ (x : Reading). x .read) same in
+          let i : r .read ≡ Read.Job (job .budget) (job .room) (job .marks) (length (job .table) / rowWords) = read-unique (r .read) _ (ap (λ (x : ReadingSaid). x .said) same) in
           let b : budget ≡ job .budget = cc in
           let o : room ≡ job .room = cc in
           let m : marks ≡ job .marks = cc in
           let n : rows ≡ length (job .table) / rowWords = cc in
           let count : length (job .table) ≡ rowWords * rows = fits .whole ∙ ap (λ (k : ℕ). rowWords * k) (sym n) in
-          let table : r .table ≡ job .table ++ replicate (tableWords - length (job .table)) 0 = ap (λ (x : Reading). x .table) same in
+          let table : r .table ≡ job .table ++ replicate (tableWords - length (job .table)) 0 = ap (λ (x : ReadingSaid). x .table) same in
           let part : take (rowWords * rows) (r .table) ≡ job .table =
           ap (take (rowWords * rows)) table ∙ take-at (job .table) (replicate (tableWords - length (job .table)) 0) (rowWords * rows) count in
-          let memory : r .memory .words ≡ filled width (job .inputs) = ap (λ (x : Reading). x .memory .words) same in
+          let memory : r .memory .words ≡ filled width (job .inputs) = ap (λ (x : ReadingSaid). x .memory) same in
           record {
             within = omega (arith, fits .room);
             words = omega (arith, ap length table, length-append (job .table) (replicate (tableWords - length (job .table)) 0));
@@ -132,13 +133,13 @@ module _ (text : List ℕ) (r : Reading) (read : r ≡ reading (readJob text)) w
   unfolding reading jobReport toldReport
   refused-report number line h = by (readJob text) refl read
     where
-      by : (t : Told) → t ≡ readJob text → r ≡ reading t → refusalText number line ≡ jobReport text
+      by : (t : Told) → t ≡ readJob text → saidOfReading r ≡ reading t → refusalText number line ≡ jobReport text
       by (told job) e same =
-          let i : r .read ≡ Read.Job (job .budget) (job .room) (job .marks) (length (job .table) / rowWords) = ap (λ (x : Reading). x .read) same in
+          let i : r .read ≡ Read.Job (job .budget) (job .room) (job .marks) (length (job .table) / rowWords) = read-unique (r .read) _ (ap (λ (x : ReadingSaid). x .said) same) in
           let z : _≡_ {A = ℕ} 0 1 = cc in
           absurd (omega arith)
       by (untold refusal at) e same =
-          let i : r .read ≡ Read.Refused refusal at = ap (λ (x : Reading). x .read) same in
+          let i : r .read ≡ Read.Refused refusal at = read-unique (r .read) _ (ap (λ (x : ReadingSaid). x .said) same) in
           let n : number ≡ refusal = cc in
           let l : line ≡ at = cc in
           ap₂ refusalText n l ∙ ap toldReport e

@@ -15,7 +15,7 @@ ghost use Rattle.rules.specs.Limits.{recordWords, mostTraceWords};
 ghost use Rattle.rules.specs.Answers.{inputs, answer};
 ghost use Rattle.job.specs.Limits.{mostRoom};
 ghost use Rattle.report.specs.Reports.{report};
-ghost use Rattle.report.specs.Written.{placedIn};
+ghost use Rattle.report.specs.Written.{saidOfWrote, placedIn};
 ghost use Rattle.desk.specs.Desk.{mostReport, jobReport};
 
 // The words of the most records that a job has room for, and the bytes of their report, the longest one.
@@ -34,7 +34,7 @@ fn report_traced(
 ) -> Wrote
     requires { ⌜ (length (now trace) ≤ mostTraceWords) × (mostReport ≤ length (now out)) ⌝ }
     ensures { λ r. ⌜
-        (record { wrote = r; out = now (out .exit) })
+        (record { said = saidOfWrote r; out = now (out .exit) })
         ≡ placedIn mostReport
         (report (answer (inputs (now (table .entry)) (memory .words) marks budget (now (trace .entry)))))
         (now (out .entry)) ⌝ }
@@ -54,7 +54,7 @@ fn report_run(
 ) -> Wrote
     requires { ⌜ (room ≤ mostRoom) × (mostReport ≤ length (now out)) ⌝ }
     ensures { λ r. ⌜
-        (record { wrote = r; out = now (out .exit) })
+        (record { said = saidOfWrote r; out = now (out .exit) })
         ≡ placedIn mostReport
         (report (answer (inputs (now (table .entry)) (memory .words) marks budget (replicate (recordWords * room) 0))))
         (now (out .entry)) ⌝ }
@@ -68,7 +68,7 @@ fn report_run(
 // buffer is kept as it is.
 pub fn answer_job(text: &[u8], out: &mut [u8]) -> Wrote
     ensures { λ r. ⌜
-        (record { wrote = r; out = now (out .exit) })
+        (record { said = saidOfWrote r; out = now (out .exit) })
         ≡ placedIn mostReport (jobReport (now (text .entry))) (now (out .entry)) ⌝ }
 {
     if out.len() < REPORT_BYTES {

@@ -1,2 +1,3 @@
 -- The laws of this crate.
 mod ValuedLaws
+pub mod SaidLaws

@@ -8,10 +8,20 @@ use Rattle.rules.specs.Values.{mayAssign}
 use Rattle.rules.specs.Judging.{judge}
 use Rattle.expression.specs.declared.assigned.Assigned.{Assigned}
 
-abbrev pub variablesOr : Judged → ℕ → Assigned
-variablesOr Judged.Accepted set = Assigned.Variables set
-variablesOr (Judged.Refused number row) set = Assigned.Refused number row
+-- What document 01 says of a statement in any table: the variables that it may assign; refused, with its number and row.
+pub data AssignedSaid : Type 0 where
+  variables : ℕ → AssignedSaid
+  refused : ℕ → ℕ → AssignedSaid
+
+-- "Where the answer is an enum, there is a definition that gives this paper's number and values for each of its cases."
+abbrev pub saidOfAssigned : Assigned → AssignedSaid
+saidOfAssigned (Assigned.Variables set) = variables set
+saidOfAssigned (Assigned.Refused number row) = refused number row
+
+abbrev pub variablesOr : Judged → ℕ → AssignedSaid
+variablesOr Judged.Accepted set = variables set
+variablesOr (Judged.Refused number row) set = refused number row
 
 -- a refused table gives its refusal; of any other, what the statement at the row may assign
-abbrev pub assignedOf : List ℕ → ℕ → Assigned
-assignedOf words row = variablesOr (judge words) (mayAssign (stmtAt (rowsOf words) row))
+abbrev pub assignedAt : List ℕ → ℕ → AssignedSaid
+assignedAt words row = variablesOr (judge words) (mayAssign (stmtAt (rowsOf words) row))

@@ -17,10 +17,20 @@ valuedOf memory marks e = record { value = value memory e; level = level marks e
 abbrev pub valuedIn : ℕ → Valued
 valuedIn word = record { value = word % 2 ^ wordBits; level = word / 2 ^ wordBits }
 
-abbrev pub foundOr : Judged → Valued → Evaluation
-foundOr Judged.Accepted found = Evaluation.Found found
-foundOr (Judged.Refused number row) found = Evaluation.Refused number row
+-- What document 01 says of an expression in any table: found, with its value and level; refused, with its number and row.
+pub data ValueSaid : Type 0 where
+  found : ℕ → ℕ → ValueSaid
+  refused : ℕ → ℕ → ValueSaid
+
+-- "Where the answer is an enum, there is a definition that gives this paper's number and values for each of its cases."
+abbrev pub saidOfValue : Evaluation → ValueSaid
+saidOfValue (Evaluation.Found v) = found (v .value) (v .level)
+saidOfValue (Evaluation.Refused number row) = refused number row
+
+abbrev pub foundOr : Judged → Valued → ValueSaid
+foundOr Judged.Accepted v = found (v .value) (v .level)
+foundOr (Judged.Refused number row) v = refused number row
 
 -- a refused table gives its refusal; of any other, the expression at the row
-abbrev pub evaluationOf : List ℕ → ℕ → List ℕ → ℕ → Evaluation
-evaluationOf words row memory marks = foundOr (judge words) (valuedOf memory marks (exprAt (rowsOf words) row))
+abbrev pub valueAt : List ℕ → ℕ → List ℕ → ℕ → ValueSaid
+valueAt words row memory marks = foundOr (judge words) (valuedOf memory marks (exprAt (rowsOf words) row))

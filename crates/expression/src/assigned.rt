@@ -14,7 +14,7 @@ ghost use Rattle.rules.specs.Rows.{rowsOf};
 ghost use Rattle.rules.specs.Trees.{stmtAt};
 ghost use Rattle.rules.specs.Values.{mayAssign};
 ghost use Rattle.rules.specs.Sound.{Sound};
-ghost use Rattle.expression.specs.Assigned.{assignedOf};
+ghost use Rattle.expression.specs.Assigned.{saidOfAssigned, assignedAt};
 
 // What the public call answers: the variables, or the judge's refusal of the table.
 pub enum Assigned {
@@ -52,10 +52,10 @@ pub fn may_assign(table: &[u32], row: u32) -> Marks
     may_assign_lent(&table, row)
 }
 
-// The variables that the statement at a row of any table may assign: the table is judged first. A row that the table does
-// not have is read as skip.
+// The variables that the statement at a row of any table may assign: the table is judged first. An expression's row, and a
+// row that the table does not have, is read as skip: it may assign no variable.
 pub fn assigned_at(table: &[u32], row: u32) -> Assigned
-    ensures { λ r. ⌜ r ≡ assignedOf (now (table .entry)) row ⌝ }
+    ensures { λ r. ⌜ saidOfAssigned r ≡ assignedAt (now (table .entry)) row ⌝ }
 {
     let judged = judge(table);
     if let Judged::Refused { number, row: at } = judged {

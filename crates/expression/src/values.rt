@@ -19,7 +19,7 @@ ghost use Rattle.rules.specs.Limits.{width};
 ghost use Rattle.rules.specs.Rows.{rowsOf};
 ghost use Rattle.rules.specs.Trees.{variable, exprAt};
 ghost use Rattle.rules.specs.Sound.{Sound};
-ghost use Rattle.expression.specs.Valued.{valuedOf, valuedIn, evaluationOf};
+ghost use Rattle.expression.specs.Valued.{valuedOf, valuedIn, saidOfValue, valueAt};
 
 // An expression's value, and its level: the marked variables that are read in it.
 pub struct Valued {
@@ -90,10 +90,10 @@ pub fn evaluate(table: &[u32], row: u32, words: &[u32; VARIABLES], marks: Marks)
     unpack(evaluate_lent(&table, row, words, marks))
 }
 
-// The value and level of the expression at a row of any table: the table is judged first. A row that the table does not
-// have is read as the constant 0.
+// The value and level of the expression at a row of any table: the table is judged first. A statement's row, and a row that
+// the table does not have, is read as the constant 0: its value is 0, and its level too.
 pub fn value_at(table: &[u32], row: u32, memory: Memory, marks: Marks) -> Evaluation
-    ensures { λ r. ⌜ r ≡ evaluationOf (now (table .entry)) row (memory .words) marks ⌝ }
+    ensures { λ r. ⌜ saidOfValue r ≡ valueAt (now (table .entry)) row (memory .words) marks ⌝ }
 {
     let judged = judge(table);
     if let Judged::Refused { number, row: at } = judged {

@@ -3,11 +3,10 @@ use Prim.Native.Nat.{ℕ, zero, suc, _+_, _-_, _*_, _/_, _≤_, _<_}
 use native.Mathlib.Omega.{arith}
 use mathlib.Core.Bool.{Bool}
 use mathlib.Core.List.{List, [], _∷_, _++_}
-use mathlib.Core.Path.{_≡_, sym, ap, ap₂, _∙_}
+use mathlib.Core.Path.{_≡_, refl, sym, ap, _∙_}
 use lib.ListN.{length, take, drop, replicate, take-append-drop, drop-of-length-le}
 use lib.Seq.{length-take-le}
 use borrow.Author.Tests.{lt-ltb, le-ltb}
-use Rattle.rules.specs.declared.Memory.{Memory}
 use Rattle.rules.specs.Limits.{width, rowWords, mostRows, mostJobBytes}
 use Rattle.job.specs.declared.Read.{Read}
 use Rattle.job.specs.declared.Reading.{Reading}
@@ -15,7 +14,7 @@ use Rattle.lines.specs.Limits.{lacksForm}
 use Rattle.job.specs.Limits.{tableWords, tooLong, firstInput}
 use Rattle.lines.specs.Lines.{rowsKey, Line, line, faulty, lineOf, Lines, lines, broken, linesOf}
 use Rattle.job.specs.Jobs.{Job, Told, told, untold, one, many, finish, inLine, rowLine, readTable, readInputs, readBudget, sized, readJob}
-use Rattle.job.specs.Read.{filled, reading}
+use Rattle.job.specs.Read.{filled, ReadSaid, job, refused, saidOfRead, ReadingSaid, saidOfReading, reading}
 use Rattle.lines.proofs.NumberLaws.{drop-next}
 
 -- ---- one line of a number, and what follows
@@ -121,13 +120,29 @@ rows-counted rows words h =
     let n = length-take-le (rowWords * rows) words h in
     omega arith
 
-pub reading-told : (budget room marks rows : ℕ) (memory : Memory) (table inputs words : List ℕ) → memory .words ≡ filled width inputs
+pub reading-told : (budget room marks rows : ℕ) (memory table inputs words : List ℕ) → memory ≡ filled width inputs
     → table ≡ filled tableWords words → rows ≡ length words / rowWords
-    → _≡_ {A = Reading} (record { read = Read.Job budget room marks rows; memory = memory; table = table })
+    → _≡_ {A = ReadingSaid} (record { said = job budget room marks rows; memory = memory; table = table })
     (reading (told (record { budget = budget; room = room; marks = marks; inputs = inputs; table = words })))
 unfolding reading
 reading-told budget room marks rows memory table inputs words m t r =
-    ap (λ (k : ℕ). whole k (memory .words) table) r ∙ ap₂ (whole (length words / rowWords)) m t
-  where
-    whole : ℕ → List ℕ → List ℕ → Reading
-    whole k ws ts = record { read = Read.Job budget room marks k; memory = record { words = ws }; table = ts }
+    λ i. record { said = job budget room marks (r i); memory = m i; table = t i }
+
+-- ---- two answers that say the same are the same: each is read back from what it says
+
+readBack : ReadSaid → Read
+readBack (job budget room marks rows) = Read.Job budget room marks rows
+readBack (refused refusal at) = Read.Refused refusal at
+
+read-back : (a : Read) → readBack (saidOfRead a) ≡ a
+unfolding readBack
+read-back (Read.Job budget room marks rows) = refl
+read-back (Read.Refused refusal at) = refl
+
+pub read-unique : (a b : Read) → saidOfRead a ≡ saidOfRead b → a ≡ b
+read-unique a b e = sym (read-back a) ∙ ap readBack e ∙ read-back b
+
+pub reading-unique : (a b : Reading) → saidOfReading a ≡ saidOfReading b → a ≡ b
+reading-unique a b e =
+    let read = read-unique (a .read) (b .read) (ap (λ (s : ReadingSaid). s .said) e) in
+    λ i. record { read = read i; memory = record { words = e i .memory }; table = e i .table }

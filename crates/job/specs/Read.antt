@@ -49,15 +49,34 @@ pub record LinesRead (text : List ℕ) (count : ℕ) (before left : List ℕ) (a
 unfoldable pub filled : ℕ → List ℕ → List ℕ
 filled size values = values ++ replicate (size - length values) 0
 
+-- What document 01 says of a text: a job, with its budget, room, mark set and number of rows; refused, with its number and line.
+pub data ReadSaid : Type 0 where
+  job : ℕ → ℕ → ℕ → ℕ → ReadSaid
+  refused : ℕ → ℕ → ReadSaid
+
+-- "Where the answer is an enum, there is a definition that gives this paper's number and values for each of its cases."
+abbrev pub saidOfRead : Read → ReadSaid
+saidOfRead (Read.Job budget room marks rows) = job budget room marks rows
+saidOfRead (Read.Refused refusal at) = refused refusal at
+
+-- what is said, and the words of memory and table
+pub record ReadingSaid : Type 0 where
+  pub said : ReadSaid
+  pub memory : List ℕ
+  pub table : List ℕ
+
+abbrev pub saidOfReading : Reading → ReadingSaid
+saidOfReading r = record { said = saidOfRead (r .read); memory = r .memory .words; table = r .table }
+
 -- "(others 0)" A refused job leaves nothing: every word of memory and table is 0.
-unfoldable pub reading : Told → Reading
-reading (told job) = record {
-  read = Read.Job (job .budget) (job .room) (job .marks) (length (job .table) / rowWords);
-  memory = record { words = filled width (job .inputs) };
-  table = filled tableWords (job .table);
+unfoldable pub reading : Told → ReadingSaid
+reading (told j) = record {
+  said = job (j .budget) (j .room) (j .marks) (length (j .table) / rowWords);
+  memory = filled width (j .inputs);
+  table = filled tableWords (j .table);
 }
 reading (untold refusal at) = record {
-  read = Read.Refused refusal at;
-  memory = record { words = filled width [] };
+  said = refused refusal at;
+  memory = filled width [];
   table = filled tableWords [];
 }

@@ -17,7 +17,7 @@ ghost use Rattle.job.specs.Limits.{tableWords, firstInput};
 ghost use Rattle.lines.specs.Numbers.{zeroByte, beyond, isDigit, digitsOn, numberAt};
 ghost use Rattle.lines.specs.Lines.{afterKey, field, fields, ended, lineOf, linesOf};
 ghost use Rattle.job.specs.Jobs.{untold, inLine, rowLine, readTable, readInputs, readCount, readLevels, readRoom, readJob};
-ghost use Rattle.job.specs.Read.{keySaid, fieldSaid, lineSaid, rowSaid, LinesRead, filled, reading};
+ghost use Rattle.job.specs.Read.{keySaid, fieldSaid, lineSaid, rowSaid, LinesRead, filled, saidOfReading, reading};
 
 // Document 01's numbers of a job, as `specs/Limits` has them.
 pub const MOST_BYTES: usize = 32768;
@@ -369,7 +369,7 @@ fn fill_rows(
 
 // The answer to a text that is refused.
 fn refused(number: u32, line: u32) -> Reading
-    ensures { λ r. ⌜ r ≡ reading (untold number line) ⌝ }
+    ensures { λ r. ⌜ saidOfReading r ≡ reading (untold number line) ⌝ }
 {
     Reading {
         read: Read::Refused { number, line },
@@ -392,7 +392,7 @@ fn read_table(
 ) -> Reading
     requires { ⌜ (inputs ≤ width) × (memory .words ≡ filled width (take inputs (memory .words))) ⌝ }
     ensures { λ r. ⌜
-        r
+        saidOfReading r
         ≡ reading (readTable budget room marks (firstInput + inputs) (take inputs (memory .words)) (drop at (now (text .entry)))) ⌝ }
 {
     let count = read_line(text, at, b"rows=", MOST_ROWS as u64);
@@ -426,7 +426,7 @@ fn read_table(
 // The answer to a text whose inputs' lines stand at a place, so many.
 fn read_inputs(text: &[u8], at: usize, budget: u32, room: u32, marks: Marks, inputs: u32) -> Reading
     requires { ⌜ inputs ≤ width ⌝ }
-    ensures { λ r. ⌜ r ≡ reading (readInputs budget room marks inputs (drop at (now (text .entry)))) ⌝ }
+    ensures { λ r. ⌜ saidOfReading r ≡ reading (readInputs budget room marks inputs (drop at (now (text .entry)))) ⌝ }
 {
     let mut memory = Memory {
         words: [0; VARIABLES],
@@ -440,7 +440,7 @@ fn read_inputs(text: &[u8], at: usize, budget: u32, room: u32, marks: Marks, inp
 
 // The answer to a text whose `inputs=` line stands at a place.
 fn read_count(text: &[u8], at: usize, budget: u32, room: u32, marks: Marks) -> Reading
-    ensures { λ r. ⌜ r ≡ reading (readCount budget room marks (drop at (now (text .entry)))) ⌝ }
+    ensures { λ r. ⌜ saidOfReading r ≡ reading (readCount budget room marks (drop at (now (text .entry)))) ⌝ }
 {
     let line = read_line(text, at, b"inputs=", VARIABLES as u64);
     match line {
@@ -451,7 +451,7 @@ fn read_count(text: &[u8], at: usize, budget: u32, room: u32, marks: Marks) -> R
 
 // The answer to a text whose `levels=` line stands at a place.
 fn read_levels(text: &[u8], at: usize, budget: u32, room: u32) -> Reading
-    ensures { λ r. ⌜ r ≡ reading (readLevels budget room (drop at (now (text .entry)))) ⌝ }
+    ensures { λ r. ⌜ saidOfReading r ≡ reading (readLevels budget room (drop at (now (text .entry)))) ⌝ }
 {
     let line = read_line(text, at, b"levels=", MOST_WORD);
     match line {
@@ -462,7 +462,7 @@ fn read_levels(text: &[u8], at: usize, budget: u32, room: u32) -> Reading
 
 // The answer to a text whose `room=` line stands at a place.
 fn read_room(text: &[u8], at: usize, budget: u32) -> Reading
-    ensures { λ r. ⌜ r ≡ reading (readRoom budget (drop at (now (text .entry)))) ⌝ }
+    ensures { λ r. ⌜ saidOfReading r ≡ reading (readRoom budget (drop at (now (text .entry)))) ⌝ }
 {
     let line = read_line(text, at, b"room=", MOST_ROOM);
     match line {
@@ -473,7 +473,7 @@ fn read_room(text: &[u8], at: usize, budget: u32) -> Reading
 
 // The answer to a job's bytes.
 pub fn read_job(text: &[u8]) -> Reading
-    ensures { λ r. ⌜ r ≡ reading (readJob (now (text .entry))) ⌝ }
+    ensures { λ r. ⌜ saidOfReading r ≡ reading (readJob (now (text .entry))) ⌝ }
 {
     if MOST_BYTES < text.len() {
         return refused(TOO_LONG, 0);

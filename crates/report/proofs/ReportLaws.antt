@@ -20,7 +20,7 @@ use Rattle.lines.specs.Numbers.{decimal}
 use Rattle.lines.specs.Lines.{lineEnd, comma, levelsKey, fieldText, fieldsText, lineText, oneText}
 use Rattle.report.specs.Reports.{refusedKey, atKey, verdictKey, placeKey, stepsKey, markedKey, memKey, recordsKey, outKey, refusalText, headText, memoryText, recordText, recordsText, runText, saidText, report}
 use Rattle.lines.specs.Limits.{mostDigits}
-use Rattle.report.specs.Written.{Placed, mostField, mostLine, mostHead, mostMemory, mostRecord, mostRefusal, mostRun, Written, fitted, placedIn, recordsOf, wholeOf, counted, refusalWritten, runWritten, endedWritten, reportWritten}
+use Rattle.report.specs.Written.{Placed, mostField, mostLine, mostHead, mostMemory, mostRecord, mostRefusal, mostRun, WroteSaid, bytes, tooShort, lacking, saidOfWrote, Written, fitted, placedIn, recordsOf, wholeOf, counted, refusalWritten, runWritten, endedWritten, reportWritten}
 use Rattle.lines.proofs.NumberLaws.{drop-next}
 use Rattle.report.proofs.WriteLaws.{placed-then, Leads, leads-start, leads-step, leads-end}
 
@@ -192,12 +192,12 @@ placed-run number place a trace h p₁ p₂ p₃ p₄ =
     p₄
 
 pub written-short : (room : ℕ) (text out : List ℕ) → length out < room
-    → _≡_ {A = Written} (record { wrote = Wrote.TooShort; out = out }) (placedIn room text out)
+    → _≡_ {A = Written} (record { said = tooShort; out = out }) (placedIn room text out)
 unfolding placedIn fitted
 written-short room text out h = ap (λ (b : Bool). fitted b text out) (sym (lt-leb room (length out) h))
 
 pub written-whole : (room : ℕ) (text out : List ℕ) (next : ℕ) (left : List ℕ) → room ≤ length out → Placed out 0 text room next left
-    → _≡_ {A = Written} (record { wrote = Wrote.Bytes next; out = left }) (placedIn room text out)
+    → _≡_ {A = Written} (record { said = bytes next; out = left }) (placedIn room text out)
 unfolding placedIn fitted
 written-whole room text out next left h p =
     let n : next ≡ length text = p .place ∙ zero-add (length text) in
@@ -205,16 +205,16 @@ written-whole room text out next left h p =
     p .kept
     ∙ sets-eq text out 0 (omega (arith, p .few))
     ∙ ap (λ (k : ℕ). text ++ drop k out) (zero-add (length text)) in
-    ap₂ bytes n l ∙ sym (ap (λ (b : Bool). fitted b text out) (le-leb room (length out) h))
+    ap₂ whole n l ∙ sym (ap (λ (b : Bool). fitted b text out) (le-leb room (length out) h))
   where
-    bytes : ℕ → List ℕ → Written
-    bytes k o = record { wrote = Wrote.Bytes k; out = o }
+    whole : ℕ → List ℕ → Written
+    whole k o = record { said = bytes k; out = o }
 
 -- ---- the report of an answer
 
 module _ (records : ℕ) (text trace out : List ℕ) where
   pub run-lacking : length trace < recordWords * records
-      → _≡_ {A = Written} (record { wrote = Wrote.Lacking; out = out }) (runWritten records text trace out)
+      → _≡_ {A = Written} (record { said = lacking; out = out }) (runWritten records text trace out)
   unfolding runWritten counted
   run-lacking h = ap (λ (b : Bool). counted b records text out) (sym (lt-leb (recordWords * records) (length trace) h))
 
@@ -288,18 +288,34 @@ module _ (room : ℕ) (out : List ℕ) (fits : room ≤ length out) where
       by (Ended.Refused number row) e =
           refusal-placed number row (omega arith) ∙ ap (λ (text : List ℕ). placedIn room text out) (report-refused a trace number row e)
 
+-- ---- two answers that say the same are the same: each is read back from what it says
+
+wroteBack : WroteSaid → Wrote
+wroteBack (bytes count) = Wrote.Bytes count
+wroteBack tooShort = Wrote.TooShort
+wroteBack lacking = Wrote.Lacking
+
+wrote-back : (a : Wrote) → wroteBack (saidOfWrote a) ≡ a
+unfolding wroteBack
+wrote-back (Wrote.Bytes count) = refl
+wrote-back Wrote.TooShort = refl
+wrote-back Wrote.Lacking = refl
+
+pub wrote-unique : (a b : Wrote) → saidOfWrote a ≡ saidOfWrote b → a ≡ b
+wrote-unique a b e = sym (wrote-back a) ∙ ap wroteBack e ∙ wrote-back b
+
 -- the bytes that were written stand in the buffer
 pub written-within : (room : ℕ) (text out left : List ℕ) (wrote : Wrote) (count : ℕ) → wrote ≡ Wrote.Bytes count
-    → _≡_ {A = Written} (record { wrote = wrote; out = left }) (placedIn room text out) → count ≤ length left
+    → _≡_ {A = Written} (record { said = saidOfWrote wrote; out = left }) (placedIn room text out) → count ≤ length left
 unfolding placedIn fitted
 written-within room text out left wrote count e w = by (leb room (length out)) w
   where
-    by : (b : Bool) → _≡_ {A = Written} (record { wrote = wrote; out = left }) (fitted b text out) → count ≤ length left
+    by : (b : Bool) → _≡_ {A = Written} (record { said = saidOfWrote wrote; out = left }) (fitted b text out) → count ≤ length left
     by true h =
-        let b : wrote ≡ Wrote.Bytes (length text) = ap (λ (x : Written). x .wrote) h in
+        let b : wrote ≡ Wrote.Bytes (length text) = wrote-unique wrote (Wrote.Bytes (length text)) (ap (λ (x : Written). x .said) h) in
         let n : count ≡ length text = cc in
         omega (arith, ap (λ (x : Written). length (x .out)) h, length-append text (drop (length text) out))
     by false h =
-        let b : wrote ≡ Wrote.TooShort = ap (λ (x : Written). x .wrote) h in
+        let b : wrote ≡ Wrote.TooShort = wrote-unique wrote Wrote.TooShort (ap (λ (x : Written). x .said) h) in
         let z : _≡_ {A = ℕ} 0 1 = cc in
         absurd (omega arith)

@@ -47,15 +47,29 @@ mostRun records = mostHead + mostMemory + mostLine recordsKey + mostRecord * rec
 
 -- ---- the writer's answer and the buffer afterwards
 
+-- What is said of a report that was asked for: so many bytes; the buffer is too short for the longest such report; the trace
+-- lacks records that the answer counts.
+pub data WroteSaid : Type 0 where
+  bytes : ℕ → WroteSaid
+  tooShort : WroteSaid
+  lacking : WroteSaid
+
+-- "Where the answer is an enum, there is a definition that gives this paper's number and values for each of its cases."
+abbrev pub saidOfWrote : Wrote → WroteSaid
+saidOfWrote (Wrote.Bytes count) = bytes count
+saidOfWrote Wrote.TooShort = tooShort
+saidOfWrote Wrote.Lacking = lacking
+
+-- what is said, and the buffer afterwards
 pub record Written : Type 0 where
-  pub wrote : Wrote
+  pub said : WroteSaid
   pub out : List ℕ
 
 -- A buffer with room for the longest such report gets the text at its front, and keeps its other bytes; any other is kept as
 -- it is.
 unfoldable pub fitted : Bool → List ℕ → List ℕ → Written
-fitted true text out = record { wrote = Wrote.Bytes (length text); out = text ++ drop (length text) out }
-fitted false text out = record { wrote = Wrote.TooShort; out = out }
+fitted true text out = record { said = bytes (length text); out = text ++ drop (length text) out }
+fitted false text out = record { said = tooShort; out = out }
 
 unfoldable pub placedIn : ℕ → List ℕ → List ℕ → Written
 placedIn room text out = fitted (leb room (length out)) text out
@@ -83,7 +97,7 @@ wholeOf a trace = record {
 -- A trace that has not the words of the records that the answer counts is no run's: nothing is written.
 unfoldable pub counted : Bool → ℕ → List ℕ → List ℕ → Written
 counted true records text out = placedIn (mostRun records) text out
-counted false records text out = record { wrote = Wrote.Lacking; out = out }
+counted false records text out = record { said = lacking; out = out }
 
 unfoldable pub runWritten : ℕ → List ℕ → List ℕ → List ℕ → Written
 runWritten records text trace out = counted (leb (recordWords * records) (length trace)) records text out

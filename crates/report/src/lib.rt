@@ -10,7 +10,7 @@ ghost use Rattle.lines.specs.Numbers.{decimal};
 ghost use Rattle.lines.specs.Lines.{comma, fieldText, fieldsText, oneText};
 ghost use Rattle.report.specs.Reports.{headText, memoryText, recordText, recordsText, runText};
 ghost use Rattle.lines.specs.Limits.{mostDigits};
-ghost use Rattle.report.specs.Written.{Placed, mostField, mostLine, mostHead, mostMemory, mostRecord, mostRun, refusalWritten, recordsOf, wholeOf, runWritten, reportWritten};
+ghost use Rattle.report.specs.Written.{Placed, mostField, mostLine, mostHead, mostMemory, mostRecord, mostRun, saidOfWrote, refusalWritten, recordsOf, wholeOf, runWritten, reportWritten};
 
 // The most bytes of a refusal's report; of a run's report but for its records; and of a record.
 const REFUSAL_BYTES: usize = 33;
@@ -162,7 +162,7 @@ fn put_records(out: &mut [u8], from: usize, trace: &[u32], records: usize) -> us
 
 // Writes the report of a refusal, of a job or of a run.
 pub fn write_refusal(number: u32, at: u32, out: &mut [u8]) -> Wrote
-    ensures { λ r. ⌜ (record { wrote = r; out = now (out .exit) }) ≡ refusalWritten number at (now (out .entry)) ⌝ }
+    ensures { λ r. ⌜ (record { said = saidOfWrote r; out = now (out .exit) }) ≡ refusalWritten number at (now (out .entry)) ⌝ }
 {
     if out.len() < REFUSAL_BYTES {
         return Wrote::TooShort;
@@ -189,7 +189,7 @@ fn put_run(verdict: u32, place: u32, answer: Answer, trace: &[u32], out: &mut [u
 // Writes the report of a run that ended with a verdict at a place.
 fn write_run(verdict: u32, place: u32, answer: Answer, trace: &[u32], out: &mut [u8]) -> Wrote
     ensures { λ r. ⌜
-        (record { wrote = r; out = now (out .exit) })
+        (record { said = saidOfWrote r; out = now (out .exit) })
         ≡ runWritten (answer .records) (runText verdict place (wholeOf answer (now (trace .entry)))) (now (trace .entry)) (now (out .entry)) ⌝ }
 {
     let records = answer.records as usize;
@@ -205,7 +205,7 @@ fn write_run(verdict: u32, place: u32, answer: Answer, trace: &[u32], out: &mut 
 // Writes the report of an answer, whose records are the first words of the trace.
 pub fn write_report(answer: Answer, trace: &[u32], out: &mut [u8]) -> Wrote
     ensures { λ r. ⌜
-        (record { wrote = r; out = now (out .exit) })
+        (record { said = saidOfWrote r; out = now (out .exit) })
         ≡ reportWritten answer (now (trace .entry)) (now (out .entry)) ⌝ }
 {
     let ended = answer.ended;

@@ -136,7 +136,7 @@ returns-4 c =
     let end = at-rows2 .rows2 .given in
     let words = at-fill-rows .fill-rows .last .1 .1 .1 .1 .0 in
     let same = at-fill-rows .fill-rows .ensures .same in
-    reading-told (args .budget) (args .room) (args .marks) (count .0 .0) (args .memory) words (take (args .inputs) (args .memory .words))
+    reading-told (args .budget) (args .room) (args .marks) (count .0 .0) (args .memory .words) words (take (args .inputs) (args .memory .words))
     (take (rowWords * (count .0 .0)) words) (start .pre .1)
     (filled-front tableWords (rowWords * (count .0 .0)) words (omega (arith, within)) same (at-fill-rows .fill-rows .ensures .kept))
     (rows-counted (count .0 .0) words (omega (arith, within, same)))
