@@ -1,10 +1,10 @@
 //! Random tables: recipes at and over every limit, their rows in any order that the rules allow.
 
 use independent::marks::VARIABLES;
-use independent::random::{Random, DATA_VARIABLES, OPERATORS};
+use independent::random::{Random, DATA_VARIABLES};
 use independent::recipes::{
-    all_left, all_right, assign, binary, constant, if_else, lay, lay_backward, output, sequence,
-    skip, variable, while_do, Part,
+    all_left, all_right, assign, constant, if_else, lay, lay_backward, output, sequence, skip,
+    variable, while_do, Part,
 };
 use independent::table::{
     Word, MOST_HEIGHT, MOST_LOOP_NESTING, MOST_NESTING, MOST_ROWS, ROW_WORDS,
@@ -85,38 +85,12 @@ fn nest_at_limits(random: &mut Random) -> (Part, Kind) {
     } else {
         Kind::NestAtLimits
     };
-    (nest(random, nesting, loops, 0, inmost), kind)
-}
-
-/// Ifs and loops around a statement: exactly so many levels, exactly so many of them loops.
-/// `outside` is the number of loops around the whole.
-fn nest(random: &mut Random, nesting: u32, loops: u32, outside: u32, inmost: Part) -> Part {
-    if nesting == 0 {
-        return inmost;
-    }
-    let level = if random.below(nesting) < loops {
-        let body = nest(random, nesting - 1, loops - 1, outside + 1, inmost);
-        random.repeated(body, outside)
-    } else {
-        let test = random.expression(2);
-        let inner = nest(random, nesting - 1, loops, outside, inmost);
-        let beside = random.simple();
-        if random.percent(50) {
-            if_else(test, inner, beside)
-        } else {
-            if_else(test, beside, inner)
-        }
-    };
-    match random.below(4) {
-        0 => sequence(random.simple(), level),
-        1 => sequence(level, random.simple()),
-        _ => level,
-    }
+    (random.nest(nesting, loops, 0, inmost), kind)
 }
 
 fn tall_at_limit(random: &mut Random) -> (Part, Kind) {
     let height = at_or_over(random, MOST_HEIGHT);
-    let tall = tall(random, height);
+    let tall = random.tall(height);
     let statement = match random.below(5) {
         0 => assign(random.below(DATA_VARIABLES), tall),
         1 => output(random.below(2), tall),
@@ -130,24 +104,6 @@ fn tall_at_limit(random: &mut Random) -> (Part, Kind) {
         Kind::TallAtLimit
     };
     (sequence(statement, random.statement(2, 0)), kind)
-}
-
-/// An expression of exactly this height; at each operator either side is the taller one.
-fn tall(random: &mut Random, height: u32) -> Part {
-    (1..height).fold(random.expression(1), |tall, _| {
-        let operator = random.below(OPERATORS);
-        let beside = random.expression(2);
-        match random.below(2) {
-            // A side of height 2 beside a leaf would be the taller one.
-            _ if is_leaf(&tall) => binary(operator, tall, random.expression(1)),
-            0 => binary(operator, tall, beside),
-            _ => binary(operator, beside, tall),
-        }
-    })
-}
-
-fn is_leaf(part: &Part) -> bool {
-    lay(part).len() == ROW_WORDS
 }
 
 /// A sequence of 512 rows, or of 513.
@@ -174,7 +130,7 @@ fn long_nested(random: &mut Random) -> (Part, Kind) {
     };
     let nesting = 1 + random.below(MOST_NESTING);
     let loops = random.below(nesting.min(MOST_LOOP_NESTING) + 1);
-    (nest(random, nesting, loops, 0, inmost), Kind::LongNested)
+    (random.nest(nesting, loops, 0, inmost), Kind::LongNested)
 }
 
 /// Statements that take exactly this many rows, those that join them in sequences among them.
@@ -220,7 +176,7 @@ fn chain(random: &mut Random) -> Part {
     let loops = 1 + random.below(MOST_LOOP_NESTING);
     let test = variable(random.one_of(&[0, first, last]));
     let inmost = if_else(test, all_right(links), random.simple());
-    nest(random, loops, loops, 0, inmost)
+    random.nest(loops, loops, 0, inmost)
 }
 
 fn shuffle<T>(random: &mut Random, items: &mut [T]) {

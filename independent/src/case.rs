@@ -3,8 +3,9 @@
 use crate::job::{end_lines, list, refusal_lines, Lines, LACKS_FORM, OUT_OF_RANGE};
 use crate::levels::{levels, Outcome};
 use crate::marks::VARIABLES;
+use crate::rows::{assigned_at, row_at, value_at};
 use crate::run::{run, Answer};
-use crate::table::{judge, Refusal};
+use crate::table::{judge, words_of, Refusal};
 use crate::tree::{Memory, Operator};
 
 /// The functions that cases ask. An answer's lines are the same, whoever gives it.
@@ -25,7 +26,10 @@ pub fn answer(input: &[u8]) -> Result<String, Refusal> {
     answer_by(&OWN, input)
 }
 
-/// Answers a case by these functions; an operator is always answered by the one here.
+/// What an answer says for every unknown kind, and for the kind of a row that is not there.
+const UNKNOWN: u32 = 11;
+
+/// Answers a case by these functions; rows and operators are always answered by those here.
 pub fn answer_by(functions: &Functions, input: &[u8]) -> Result<String, Refusal> {
     let mut lines = Lines::of(input);
     let answer = match lines.word("ask")? {
@@ -39,6 +43,7 @@ pub fn answer_by(functions: &Functions, input: &[u8]) -> Result<String, Refusal>
             let marks = lines.number("levels", u32::MAX)?;
             levels_lines((functions.levels)(&words, marks))
         }
+        b"rows" => rows_answer(&mut lines)?,
         b"operator" => operator_answer(&mut lines)?,
         _ => return Err(fault(LACKS_FORM, 1)),
     };
@@ -54,6 +59,12 @@ fn fault(number: u32, at: u32) -> Refusal {
 fn counted(lines: &mut Lines, count: &str, key: &str) -> Result<Vec<u32>, Refusal> {
     let count = lines.number(count, u32::MAX)?;
     lines.numbers(key, count as usize, u32::MAX)
+}
+
+fn memory(lines: &mut Lines) -> Result<Memory, Refusal> {
+    let mut memory: Memory = [0; VARIABLES];
+    memory.copy_from_slice(&lines.numbers("mem", VARIABLES, u32::MAX)?);
+    Ok(memory)
 }
 
 pub fn judge_answer(words: &[u32]) -> String {
@@ -80,8 +91,7 @@ fn levels_lines((outcome, marks): (Outcome, u32)) -> String {
 
 fn run_answer(functions: &Functions, lines: &mut Lines) -> Result<String, Refusal> {
     let words = counted(lines, "count", "words")?;
-    let mut memory: Memory = [0; VARIABLES];
-    memory.copy_from_slice(&lines.numbers("mem", VARIABLES, u32::MAX)?);
+    let memory = memory(lines)?;
     let marks = lines.number("levels", u32::MAX)?;
     let budget = lines.number("budget", u32::MAX)?;
     let mut trace = counted(lines, "lent", "trace")?;
@@ -92,6 +102,35 @@ fn run_answer(functions: &Functions, lines: &mut Lines) -> Result<String, Refusa
     text += &format!("records={}\n", answer.records);
     text += &format!("lent={}\ntrace={}\n", trace.len(), list(&trace));
     Ok(text)
+}
+
+fn rows_answer(lines: &mut Lines) -> Result<String, Refusal> {
+    let words = counted(lines, "count", "words")?;
+    let memory = memory(lines)?;
+    let marks = lines.number("levels", u32::MAX)?;
+    let asked = counted(lines, "asked", "rows")?;
+    let answers = asked.iter().map(|at| {
+        let value = match value_at(&words, *at, &memory, marks) {
+            Ok(valued) => format!("value={}\nlevel={}\n", valued.value, valued.level),
+            Err(refusal) => refusal_lines(refusal),
+        };
+        let assigned = match assigned_at(&words, *at) {
+            Ok(assigned) => format!("assigned={assigned}\n"),
+            Err(refusal) => refusal_lines(refusal),
+        };
+        row_lines(&words, *at) + &value + &assigned
+    });
+    Ok(answers.collect())
+}
+
+/// Whether the table has the row, and its words.
+fn row_lines(words: &[u32], at: u32) -> String {
+    let there = row_at(words, at);
+    let mut row = there.unwrap_or([UNKNOWN, 0, 0, 0]);
+    if words_of(row[0]).is_none() {
+        row[0] = UNKNOWN;
+    }
+    format!("has={}\nrow={}\n", u32::from(there.is_some()), list(&row))
 }
 
 fn operator_answer(lines: &mut Lines) -> Result<String, Refusal> {

@@ -7,6 +7,7 @@ pub mod marks;
 pub mod program;
 pub mod random;
 pub mod recipes;
+pub mod rows;
 pub mod run;
 pub mod table;
 pub mod tree;

@@ -22,6 +22,10 @@ pub fn united(one: &Marks, other: &Marks) -> Marks {
     std::array::from_fn(|variable| one[variable] || other[variable])
 }
 
+pub fn shared(one: &Marks, other: &Marks) -> Marks {
+    std::array::from_fn(|variable| one[variable] && other[variable])
+}
+
 /// Whether every variable of `part` is also in `whole`.
 pub fn within(part: &Marks, whole: &Marks) -> bool {
     (0..VARIABLES).all(|variable| !part[variable] || whole[variable])

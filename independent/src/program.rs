@@ -6,7 +6,6 @@ use std::io;
 use std::path::Path;
 
 use crate::case::answer;
-use crate::run::RECORD_WORDS;
 use crate::vectors::{all, Form, Vector};
 
 /// Judge cases with at most so many words are in the stream.
@@ -16,13 +15,14 @@ const MOST_RUN_WORDS: usize = 128;
 const MOST_TRACE_WORDS: usize = 64;
 /// Level check cases with at most so many words.
 const MOST_CHECKED_WORDS: usize = 160;
+/// Cases of rows whose table has at most so many words.
+const MOST_ROWS_WORDS: usize = 512;
 /// Longer cases that are in the stream all the same: a limit met, or just exceeded.
-const LONGER: [&str; 5] = [
-    "judge-2048-words",
-    "judge-2052-words",
+const LONGER: [&str; 4] = [
     "run-k-16384-trace-words",
     "run-k-16385-trace-words",
     "run-refused-5-before-6",
+    "rows-k-512-rows",
 ];
 /// Judge cases of the limits of tables: all are in the stream.
 const LIMITS: &str = "judge-k-";
@@ -45,7 +45,9 @@ pub fn streams() -> Streams {
         for number in &case.question {
             streams.stdin += &format!("{number}\n");
         }
-        streams.stdout += &(case.answer.join(" ") + "\n");
+        for line in &case.answer {
+            streams.stdout += &(line.join(" ") + "\n");
+        }
     }
     streams.stdin += "0\n";
     streams
@@ -59,10 +61,10 @@ pub fn write(folder: &Path) -> io::Result<()> {
     fs::write(folder.join("stdout"), streams.stdout)
 }
 
-/// A case as numbers.
+/// A case as numbers, and the lines of its answer.
 struct Numbered {
     question: Vec<String>,
-    answer: Vec<String>,
+    answer: Vec<Vec<String>>,
 }
 
 impl Numbered {
@@ -80,7 +82,7 @@ impl Numbered {
                 if !limit && asked.count("count") > MOST_JUDGED_WORDS {
                     return None;
                 }
-                ("1", answered.numbers())
+                ("1", vec![answered.numbers()])
             }
             "run" => {
                 let short = asked.count("count") <= MOST_RUN_WORDS
@@ -88,14 +90,20 @@ impl Numbered {
                 if !short && !longer {
                     return None;
                 }
-                ("2", run_numbers(&answered))
+                ("2", vec![run_numbers(&answered)])
             }
-            "operator" => ("3", answered.numbers()),
+            "operator" => ("3", vec![answered.numbers()]),
             "levels" => {
                 if asked.count("count") > MOST_CHECKED_WORDS {
                     return None;
                 }
-                ("4", told_numbers(&answered))
+                ("4", vec![told_numbers(&answered)])
+            }
+            "rows" => {
+                if !longer && asked.count("count") > MOST_ROWS_WORDS {
+                    return None;
+                }
+                ("5", rows_numbers(&answered))
             }
             _ => return None,
         };
@@ -113,17 +121,44 @@ fn told_numbers(answered: &Lines) -> Vec<String> {
     numbers
 }
 
-/// The same without the trace's length; of a long trace only the records.
+/// The same without the trace's length; of a long trace, in place of its words, their sum.
 fn run_numbers(answered: &Lines) -> Vec<String> {
     let mut numbers = told_numbers(&answered.without("lent").without("trace"));
     let trace = answered.only("trace").numbers();
-    let shown = if trace.len() > MOST_TRACE_WORDS {
-        RECORD_WORDS * answered.count("records")
+    if trace.len() > MOST_TRACE_WORDS {
+        numbers.push(sum(&trace).to_string());
     } else {
-        trace.len()
-    };
-    numbers.extend_from_slice(&trace[..shown]);
+        numbers.extend(trace);
+    }
     numbers
+}
+
+/// A line for each row: whether the table has it, its words; then value and level, and what it
+/// may assign, each after a 0, or after a 1 the refusal.
+fn rows_numbers(answered: &Lines) -> Vec<Vec<String>> {
+    let rows = answered.0.chunk_by(|_, (key, _)| key != "has");
+    let numbers = rows.map(|row| {
+        let told = row.iter().flat_map(|(key, value)| {
+            let flag = match key.as_str() {
+                "value" | "assigned" => Some("0"),
+                "refused" => Some("1"),
+                _ => None,
+            };
+            flag.into_iter().chain(value.split(','))
+        });
+        told.map(str::to_string).collect()
+    });
+    numbers.collect()
+}
+
+/// The sum of all words, the last one once and each other one 31 times what the next one
+/// counts, modulo 2^32: a word that is changed or moved shows in it.
+fn sum(trace: &[String]) -> u32 {
+    let words = trace.iter().rev().map(|word| word.parse().unwrap_or(0));
+    let weights = std::iter::successors(Some(1u32), |weight| Some(weight.wrapping_mul(31)));
+    words.zip(weights).fold(0, |sum: u32, (word, weight)| {
+        sum.wrapping_add(weight.wrapping_mul(word))
+    })
 }
 
 /// The lines `key=value` of a case or of an answer.

@@ -145,6 +145,46 @@ impl Random {
         }
     }
 
+    /// Ifs and loops around a statement: exactly so many levels, exactly so many of them loops.
+    /// `outside` is the number of loops around the whole.
+    pub fn nest(&mut self, nesting: u32, loops: u32, outside: u32, inmost: Part) -> Part {
+        if nesting == 0 {
+            return inmost;
+        }
+        let level = if self.below(nesting) < loops {
+            let body = self.nest(nesting - 1, loops - 1, outside + 1, inmost);
+            self.repeated(body, outside)
+        } else {
+            let test = self.expression(2);
+            let inner = self.nest(nesting - 1, loops, outside, inmost);
+            let beside = self.simple();
+            if self.percent(50) {
+                if_else(test, inner, beside)
+            } else {
+                if_else(test, beside, inner)
+            }
+        };
+        match self.below(4) {
+            0 => sequence(self.simple(), level),
+            1 => sequence(level, self.simple()),
+            _ => level,
+        }
+    }
+
+    /// An expression of exactly this height; at each operator either side is the taller one.
+    pub fn tall(&mut self, height: u32) -> Part {
+        (1..height).fold(self.expression(1), |tall, _| {
+            let operator = self.below(OPERATORS);
+            let beside = self.expression(2);
+            match self.below(2) {
+                // A side of height 2 beside a leaf would be the taller one.
+                _ if is_leaf(&tall) => binary(operator, tall, self.expression(1)),
+                0 => binary(operator, tall, beside),
+                _ => binary(operator, beside, tall),
+            }
+        })
+    }
+
     /// The same tree with its rows in another order, children before parents.
     pub fn reordered(&mut self, words: &[u32]) -> Vec<u32> {
         let rows: Vec<&[u32]> = words.chunks(ROW_WORDS).collect();
@@ -182,6 +222,10 @@ impl Random {
         }
         damaged
     }
+}
+
+fn is_leaf(part: &Part) -> bool {
+    lay(part).len() == ROW_WORDS
 }
 
 /// The row with its children's new numbers, once all of them are placed.

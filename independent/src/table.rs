@@ -79,8 +79,13 @@ fn rows(words: &[u32]) -> Option<Vec<Row>> {
     if !words.len().is_multiple_of(ROW_WORDS) || count == 0 || count > MOST_ROWS {
         return None;
     }
+    Some(whole_rows(words))
+}
+
+/// The rows of any table; words after the last whole row make none.
+pub fn whole_rows(words: &[u32]) -> Vec<Row> {
     let rows = words.chunks_exact(ROW_WORDS);
-    Some(rows.map(|row| [row[0], row[1], row[2], row[3]]).collect())
+    rows.map(|row| [row[0], row[1], row[2], row[3]]).collect()
 }
 
 /// Gives the number with the lowest row that it applies at.
@@ -113,7 +118,7 @@ fn misnamed(row: &Row) -> bool {
 }
 
 /// The sort asked for and the row number, for each child of a row.
-fn children(row: &Row) -> Vec<(Word, usize)> {
+pub fn children(row: &Row) -> Vec<(Word, usize)> {
     let words = words_of(row[0]).unwrap_or([Word::Unnamed; 3]);
     (0..words.len())
         .filter(|i| matches!(words[*i], Word::Expression | Word::Statement))
@@ -121,7 +126,7 @@ fn children(row: &Row) -> Vec<(Word, usize)> {
         .collect()
 }
 
-fn sort(row: &Row) -> Word {
+pub fn sort(row: &Row) -> Word {
     match row[0] {
         CONSTANT | VARIABLE | BINARY => Word::Expression,
         _ => Word::Statement,

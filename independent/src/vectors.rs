@@ -4,6 +4,7 @@
 mod checks;
 mod document;
 mod lines;
+mod rows;
 mod runs;
 mod tables;
 
@@ -81,6 +82,7 @@ pub fn all() -> Vec<Vector> {
         tables::vectors(),
         runs::vectors(),
         checks::vectors(),
+        rows::vectors(),
         lines::vectors(),
     ];
     groups.into_iter().flatten().collect()
@@ -174,14 +176,20 @@ impl Setting {
     }
 
     /// A run case. The trace holds numbers before the run, so that a word kept and a word
-    /// written can be told apart; a long trace holds zeros, to be short in the file.
+    /// written can be told apart; a long trace holds digits, to be short in the file.
     pub fn case_text(&self) -> String {
-        let old = |at: usize| if self.lent > 64 { 0 } else { 900 + at as u32 };
-        let trace: Vec<u32> = (0..self.lent).map(old).collect();
-        let mut text = format!("ask=run\n{}", words_text(&self.words));
-        text += &format!("mem={}\nlevels={}\n", list(&self.memory()), self.levels);
+        let long = self.lent > 64;
+        let old = |at: u32| if long { 1 + at % 9 } else { 900 + at };
+        let trace: Vec<u32> = (0..self.lent as u32).map(old).collect();
+        let mut text = format!("ask=run\n{}", self.marked_text());
         text += &format!("budget={}\n", self.budget);
         text + &format!("lent={}\ntrace={}\n", self.lent, list(&trace))
+    }
+
+    /// Table, memory and marks, as cases have them.
+    fn marked_text(&self) -> String {
+        let (memory, levels) = (list(&self.memory()), self.levels);
+        words_text(&self.words) + &format!("mem={memory}\nlevels={levels}\n")
     }
 
     /// The run as a job and as a case.
@@ -205,6 +213,12 @@ pub fn judge_case(name: &str, words: &[u32]) -> Vector {
 pub fn levels_case(name: &str, words: &[u32], levels: u32) -> Vector {
     let text = format!("ask=levels\n{}levels={levels}\n", words_text(words));
     Vector::case(&format!("levels-{name}"), text)
+}
+
+pub fn rows_case(name: &str, setting: &Setting, rows: &[u32]) -> Vector {
+    let mut text = format!("ask=rows\n{}", setting.marked_text());
+    text += &format!("asked={}\nrows={}\n", rows.len(), list(rows));
+    Vector::case(&format!("rows-{name}"), text)
 }
 
 pub fn operator_case(name: &str, operator: u32, left: u32, right: u32) -> Vector {

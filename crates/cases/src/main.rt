@@ -1,7 +1,9 @@
 // Reads cases, one number a line, and writes what the proved functions answer, one case a line. The crate's `stdin` and
 // `stdout` are written by the independent implementation (independent/regenerate), so the check holds the two to each other.
 //
-// A case is a code and what it asks. A 0, or a number that lacks its form, ends it all.
+// A case is a code and what it asks; vectors/README.md says what a question is and how it is answered. A 0, or a number that lacks its form, ends it all.
+use expression::assigned::Assigned;
+use expression::values::Evaluation;
 use libc::STDIN_FILENO;
 use libc::STDOUT_FILENO;
 use rules::Advice;
@@ -9,6 +11,7 @@ use rules::Answer;
 use rules::Checked;
 use rules::Ended;
 use rules::Judged;
+use rules::Kind;
 use rules::Marks;
 use rules::Memory;
 use rules::VARIABLES;
@@ -23,6 +26,11 @@ const OPERATOR: u32 = 3;
 
 const LEVELS: u32 = 4;
 
+const ROWS: u32 = 5;
+
+// What is written for the kind of a row that is not there, and for any that the document does not know.
+const UNKNOWN: u32 = 11;
+
 const MOST_BYTES: usize = 262144;
 
 const MOST_CASES: u32 = 4096;
@@ -31,8 +39,11 @@ const MOST_WORDS: usize = 4096;
 
 const MOST_TRACE_WORDS: usize = 16400;
 
-// A trace of more words is shown only as far as it has records.
+// A trace of more words is shown by a sum over all of them.
 const MOST_SHOWN_WORDS: usize = 64;
+
+// An odd factor: every place has a weight of its own in the sum, and no changed word is lost in it.
+const SUM_FACTOR: u64 = 31;
 
 const MOST_NUMBER: u64 = rules::WORD_VALUES - 1;
 
@@ -179,16 +190,29 @@ fn write_advice(advice: Advice) {
     write_number(advice.marks);
 }
 
-// The whole of a short trace; of a long one its records.
-fn write_trace(records: u32, trace: &[u32]) {
+// The whole of a short trace; of a long one the sum over all its words.
+fn write_trace(trace: &[u32]) {
     if trace.len() <= MOST_SHOWN_WORDS {
         write_numbers(trace);
         return;
     }
-    let shown = records as usize * 2;
-    if shown <= trace.len() {
-        write_numbers(&trace[..shown]);
+    write_number(sum_of(trace));
+}
+
+// A sum over all words, in which a word counts by its place.
+fn sum_of(words: &[u32]) -> u32 {
+    let mut sum: u32 = 0;
+    let mut i: usize = 0;
+    while i < words.len() {
+        sum = next_sum(sum, words[i]);
+        i += 1;
     }
+    sum
+}
+
+// The sum with one word more, modulo 2^32.
+fn next_sum(sum: u32, word: u32) -> u32 {
+    ((sum as u64 * SUM_FACTOR + word as u64) % rules::WORD_VALUES) as u32
 }
 
 fn write_answer(answer: Answer) {
@@ -224,6 +248,9 @@ fn answer_read(text: &[u8], start: usize, code: u32, words: &mut [u32]) -> usize
     if code == LEVELS {
         return answer_levels(text, next, words);
     }
+    if code == ROWS {
+        return answer_rows(text, next, words);
+    }
     answer_run(text, next, words)
 }
 
@@ -247,6 +274,98 @@ fn memory_at(text: &[u8], start: usize) -> Given {
     Given {
         memory: Memory { words },
         next,
+    }
+}
+
+// A case of rows, after its words: memory, marks, row count, rows. It is answered by a line for each row.
+fn answer_rows(text: &[u8], start: usize, table: &[u32]) -> usize {
+    let given = memory_at(text, start);
+    let marks = number_at(text, given.next);
+    let asked = number_at(text, marks.next);
+    let memory = given.memory;
+    let mut at = asked.next;
+    let mut left = asked.value;
+    while 0 < left {
+        let row = number_at(text, at);
+        answer_row(table, row.value, memory, marks.value);
+        at = row.next;
+        left -= 1;
+    }
+    at
+}
+
+// All that the functions on rows answer of one row.
+fn answer_row(table: &[u32], row: u32, memory: Memory, marks: Marks) {
+    write_row(table, row);
+    write_value(table, row, memory, marks);
+    write_assigned(table, row);
+    write_end();
+}
+
+// Whether the table has the row; then its kind and words.
+fn write_row(table: &[u32], row: u32) {
+    write_first(number_of(rows::has_row(table, row)));
+    let here = rows::row_at(table, row);
+    let kind = here.kind;
+    write_number(number_of_kind(kind));
+    write_number(here.p);
+    write_number(here.q);
+    write_number(here.r);
+}
+
+fn number_of(answer: bool) -> u32 {
+    if answer {
+        return 1;
+    }
+    0
+}
+
+// The number of a kind, by the table of kinds.
+fn number_of_kind(kind: Kind) -> u32 {
+    match kind {
+        Kind::Skip => 0,
+        Kind::Assign => 1,
+        Kind::Sequence => 2,
+        Kind::If => 3,
+        Kind::While => 4,
+        Kind::Output => 5,
+        Kind::Constant => 8,
+        Kind::Variable => 9,
+        Kind::Binary => 10,
+        Kind::Unknown => UNKNOWN,
+    }
+}
+
+// Whether the table was refused, and by what; else the value and level of the row.
+fn write_value(table: &[u32], row: u32, memory: Memory, marks: Marks) {
+    let evaluation = expression::values::value_at(table, row, memory, marks);
+    match evaluation {
+        Evaluation::Found(found) => {
+            write_number(0);
+            write_number(found.value);
+            write_number(found.level);
+        }
+        Evaluation::Refused { number, row: at } => {
+            write_number(1);
+            write_number(number);
+            write_number(at);
+        }
+    }
+}
+
+// Whether the table was refused, and by what; else the variables that the row may assign.
+fn write_assigned(table: &[u32], row: u32) {
+    let assigned = expression::assigned::assigned_at(table, row);
+    match assigned {
+        Assigned::Variables(variables) => {
+            write_number(0);
+            write_number(variables);
+        }
+        Assigned::Refused { number, row: at } => {
+            write_number(1);
+            write_number(number);
+            write_number(at);
+        }
     }
 }
 
@@ -286,7 +405,7 @@ fn run_traced(
     let next = read_words(text, start, trace);
     let answer = monitor::run(table, memory, marks, budget, trace);
     write_answer(answer);
-    write_trace(answer.records, trace);
+    write_trace(trace);
     write_end();
     next
 }
@@ -309,7 +428,7 @@ fn answer_one(text: &[u8], start: usize) -> usize {
     if asked == OPERATOR {
         return answer_operator(text, code.next);
     }
-    if asked == JUDGE || asked == RUN || asked == LEVELS {
+    if asked == JUDGE || asked == RUN || asked == LEVELS || asked == ROWS {
         return answer_words(text, code.next, asked);
     }
     text.len()

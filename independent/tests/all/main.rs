@@ -6,6 +6,7 @@ mod program;
 mod properties;
 mod reader;
 mod refusals;
+mod rows;
 mod runs;
 mod vectors;
 
