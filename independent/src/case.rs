@@ -1,8 +1,8 @@
 //! Table cases: questions that a job cannot put, in lines like a job's.
 
-use crate::job::{end_lines, list, refusal_lines, Lines, LACKS_FORM, OUT_OF_RANGE};
+use crate::job::{end_lines, list, refusal_lines, Lines, LACKS_FORM};
 use crate::levels::{levels, Outcome};
-use crate::marks::VARIABLES;
+use crate::marks::{from_bits, to_bits, united, Marks, EMPTY, VARIABLES};
 use crate::rows::{assigned_at, row_at, value_at};
 use crate::run::{run, Answer};
 use crate::table::{judge, words_of, Refusal};
@@ -29,7 +29,7 @@ pub fn answer(input: &[u8]) -> Result<String, Refusal> {
 /// What an answer says for every unknown kind, and for the kind of a row that is not there.
 const UNKNOWN: u32 = 11;
 
-/// Answers a case by these functions; rows and operators are always answered by those here.
+/// Answers a case by these functions; rows, mark sets and operators are always answered here.
 pub fn answer_by(functions: &Functions, input: &[u8]) -> Result<String, Refusal> {
     let mut lines = Lines::of(input);
     let answer = match lines.word("ask")? {
@@ -44,14 +44,16 @@ pub fn answer_by(functions: &Functions, input: &[u8]) -> Result<String, Refusal>
             levels_lines((functions.levels)(&words, marks))
         }
         b"rows" => rows_answer(&mut lines)?,
+        b"marks" => marks_answer(&mut lines)?,
         b"operator" => operator_answer(&mut lines)?,
-        _ => return Err(fault(LACKS_FORM, 1)),
+        _ => return Err(lacks_form(1)),
     };
     lines.end()?;
     Ok(answer)
 }
 
-fn fault(number: u32, at: u32) -> Refusal {
+fn lacks_form(at: u32) -> Refusal {
+    let number = LACKS_FORM;
     Refusal { number, at }
 }
 
@@ -133,9 +135,26 @@ fn row_lines(words: &[u32], at: u32) -> String {
     format!("has={}\nrow={}\n", u32::from(there.is_some()), list(&row))
 }
 
+/// The variable alone; whether it is in the set; the set with and without it; both sets.
+fn marks_answer(lines: &mut Lines) -> Result<String, Refusal> {
+    let marks = from_bits(lines.number("levels", u32::MAX)?);
+    let variable = lines.number("variable", u32::MAX)? as usize % VARIABLES;
+    let others = from_bits(lines.number("others", u32::MAX)?);
+    let put = |mut set: Marks, mark: bool| {
+        set[variable] = mark;
+        to_bits(&set)
+    };
+    let mut text = format!("only={}\n", put(EMPTY, true));
+    text += &format!("has={}\n", u32::from(marks[variable]));
+    text += &format!("with={}\n", put(marks, true));
+    text += &format!("without={}\n", put(marks, false));
+    Ok(text + &format!("joined={}\n", to_bits(&united(&marks, &others))))
+}
+
+/// An operator over 5, which the judge refuses, is read as the last one.
 fn operator_answer(lines: &mut Lines) -> Result<String, Refusal> {
-    let operator = lines.number("operator", u32::MAX)?;
-    let operator = Operator::numbered(operator).ok_or(fault(OUT_OF_RANGE, 2))?;
+    let number = lines.number("operator", u32::MAX)?;
+    let operator = Operator::numbered(number).unwrap_or(Operator::Less);
     let left = lines.number("left", u32::MAX)?;
     let right = lines.number("right", u32::MAX)?;
     Ok(format!("value={}\n", operator.value(left, right)))

@@ -105,6 +105,7 @@ impl Numbered {
                 }
                 ("5", rows_numbers(&answered))
             }
+            "marks" => ("6", vec![answered.numbers()]),
             _ => return None,
         };
         let mut question = vec![code.to_string()];

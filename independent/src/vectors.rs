@@ -3,6 +3,7 @@
 
 mod checks;
 mod document;
+mod leaves;
 mod lines;
 mod rows;
 mod runs;
@@ -83,6 +84,7 @@ pub fn all() -> Vec<Vector> {
         runs::vectors(),
         checks::vectors(),
         rows::vectors(),
+        leaves::vectors(),
         lines::vectors(),
     ];
     groups.into_iter().flatten().collect()
@@ -219,6 +221,11 @@ pub fn rows_case(name: &str, setting: &Setting, rows: &[u32]) -> Vector {
     let mut text = format!("ask=rows\n{}", setting.marked_text());
     text += &format!("asked={}\nrows={}\n", rows.len(), list(rows));
     Vector::case(&format!("rows-{name}"), text)
+}
+
+pub fn marks_case(name: &str, levels: u32, variable: u32, others: u32) -> Vector {
+    let text = format!("ask=marks\nlevels={levels}\nvariable={variable}\nothers={others}\n");
+    Vector::case(&format!("marks-{name}"), text)
 }
 
 pub fn operator_case(name: &str, operator: u32, left: u32, right: u32) -> Vector {

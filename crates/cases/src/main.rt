@@ -1,7 +1,9 @@
-// Reads cases, one number a line, and writes what the proved functions answer, one case a line. The crate's `stdin` and
-// `stdout` are written by the independent implementation (independent/regenerate), so the check holds the two to each other.
+// Reads cases, one number a line, and writes what the proved functions answer, a line for each case, or for each row that it
+// asks. The crate's `stdin` and `stdout` are written by the independent implementation (independent/regenerate), so the check
+// holds the two to each other.
 //
-// A case is a code and what it asks; vectors/README.md says what a question is and how it is answered. A 0, or a number that lacks its form, ends it all.
+// A case is a code and what it asks; vectors/README.md says how each is answered. A 0, or a number that lacks its form, ends it
+// all.
 use expression::assigned::Assigned;
 use expression::values::Evaluation;
 use libc::STDIN_FILENO;
@@ -27,6 +29,8 @@ const OPERATOR: u32 = 3;
 const LEVELS: u32 = 4;
 
 const ROWS: u32 = 5;
+
+const MARKS: u32 = 6;
 
 // What is written for the kind of a row that is not there, and for any that the document does not know.
 const UNKNOWN: u32 = 11;
@@ -421,12 +425,34 @@ fn answer_operator(text: &[u8], start: usize) -> usize {
     right.next
 }
 
+// A case of mark sets: marks, variable, other marks.
+fn answer_marks(text: &[u8], start: usize) -> usize {
+    let marks = number_at(text, start);
+    let variable = number_at(text, marks.next);
+    let others = number_at(text, variable.next);
+    write_marks(marks.value, variable.value, others.value);
+    write_end();
+    others.next
+}
+
+// The variable alone; whether it is in the set; the set with and without it; both sets.
+fn write_marks(marks: Marks, variable: u32, others: Marks) {
+    write_first(leaves::marks::only_mark(variable));
+    write_number(number_of(leaves::marks::has_mark(marks, variable)));
+    write_number(leaves::marks::mark_as(marks, variable, true));
+    write_number(leaves::marks::mark_as(marks, variable, false));
+    write_number(leaves::marks::joined(marks, others));
+}
+
 // Answers the case that starts there, and says where the next one starts.
 fn answer_one(text: &[u8], start: usize) -> usize {
     let code = number_at(text, start);
     let asked = code.value;
     if asked == OPERATOR {
         return answer_operator(text, code.next);
+    }
+    if asked == MARKS {
+        return answer_marks(text, code.next);
     }
     if asked == JUDGE || asked == RUN || asked == LEVELS || asked == ROWS {
         return answer_words(text, code.next, asked);

@@ -1,6 +1,6 @@
-//! Vectors of the document's whole case, of A to K, and of L to P.
+//! Vectors of the document's whole case, of A to I and K, and of L to P.
 
-use super::{judge_case, levels_case, operator_case, Setting, Vector, WHOLE_CASE};
+use super::{judge_case, levels_case, Setting, Vector, WHOLE_CASE};
 use crate::recipes::*;
 use crate::tree::{PROVISIONAL, SETTLED};
 
@@ -10,7 +10,6 @@ pub fn vectors() -> Vec<Vector> {
     vectors.extend(named_runs());
     vectors.extend(named_checks());
     vectors.extend(trace_words());
-    vectors.extend(operators());
     vectors.extend(limits());
     vectors
 }
@@ -93,37 +92,6 @@ fn trace_words() -> Vec<Vector> {
         lent("run-k-16384-trace-words", i(), 16384),
         lent("run-k-16385-trace-words", i(), 16385),
     ]
-}
-
-/// J, and each operator at the ends of the range.
-fn operators() -> Vec<Vector> {
-    let names = ["sum", "difference", "product", "quotient", "equal", "less"];
-    let pairs = [
-        (0, 0),
-        (5, 0),
-        (0, 1),
-        (7, 2),
-        (2, 7),
-        (u32::MAX, 1),
-        (1, u32::MAX),
-        (u32::MAX, u32::MAX),
-        (65536, 65537),
-    ];
-    let mut vectors = Vec::new();
-    for (operator, name) in (0..).zip(names) {
-        for (left, right) in pairs {
-            let name = format!("{name}-{left}-{right}");
-            vectors.push(operator_case(&name, operator, left, right));
-        }
-        // The same pairs in one job, a record for each.
-        let told = pairs.map(|(left, right)| {
-            let value = binary(operator, constant(left), constant(right));
-            output(PROVISIONAL, value)
-        });
-        let job = Setting::of(&all(told)).room(9).job_text();
-        vectors.push(Vector::job(&format!("j-{name}"), job));
-    }
-    vectors
 }
 
 /// K, as far as tables go: each limit met, and just exceeded.

@@ -59,6 +59,14 @@ fn levels() {
 fn case() {
     let operator = "ask=operator\noperator=1\nleft=0\nright=1\n";
     answers(&["--case"], operator, "value=4294967295\n");
+    let unknown = "ask=operator\noperator=6\nleft=0\nright=1\n";
+    answers(&["--case"], unknown, "value=1\n");
+    let marks = "ask=marks\nlevels=5\nvariable=33\nothers=9\n";
+    let told = "only=2\nhas=0\nwith=7\nwithout=5\njoined=13\n";
+    answers(&["--case"], marks, told);
+    let marked = "ask=marks\nlevels=5\nvariable=2\nothers=0\n";
+    let told = "only=4\nhas=1\nwith=5\nwithout=1\njoined=5\n";
+    answers(&["--case"], marked, told);
     let judge = "ask=judge\ncount=0\nwords=\n";
     answers(&["--case"], judge, "refused=1\nat=0\n");
 }
@@ -74,7 +82,7 @@ fn misused() {
         let (status, text, told) = program(arguments, JOB);
         assert_eq!((status, text.as_str(), told), (Some(2), "", true));
     }
-    for case in ["", "ask=x\n", "ask=operator\noperator=6\nleft=0\nright=1\n"] {
+    for case in ["", "ask=x\n", "ask=operator\noperator=x\nleft=0\nright=1\n"] {
         let (status, text, told) = program(&["--case"], case);
         assert_eq!((status, text.as_str(), told), (Some(2), "", true));
     }
