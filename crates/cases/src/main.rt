@@ -340,6 +340,13 @@ fn number_of_kind(kind: Kind) -> u32 {
     }
 }
 
+// A refusal in the middle of a line, after a 1.
+fn write_refused(number: u32, row: u32) {
+    write_number(1);
+    write_number(number);
+    write_number(row);
+}
+
 // Whether the table was refused, and by what; else the value and level of the row.
 fn write_value(table: &[u32], row: u32, memory: Memory, marks: Marks) {
     let evaluation = expression::values::value_at(table, row, memory, marks);
@@ -350,9 +357,7 @@ fn write_value(table: &[u32], row: u32, memory: Memory, marks: Marks) {
             write_number(found.level);
         }
         Evaluation::Refused { number, row: at } => {
-            write_number(1);
-            write_number(number);
-            write_number(at);
+            write_refused(number, at);
         }
     }
 }
@@ -366,9 +371,7 @@ fn write_assigned(table: &[u32], row: u32) {
             write_number(variables);
         }
         Assigned::Refused { number, row: at } => {
-            write_number(1);
-            write_number(number);
-            write_number(at);
+            write_refused(number, at);
         }
     }
 }
