@@ -4,7 +4,8 @@
  * even where it has 0 words, and a slice that is written to overlaps no other one of the same call.
  *
  * A call returns a status. Its answer is laid over the first words of the buffer `answer`; the words after it keep their
- * contents. A buffer that is too short is refused by a status, and then nothing at all has changed. */
+ * contents. A buffer that is too short is refused by a status, and then nothing at all has changed; where both buffers of a run
+ * are too short, the status is the answer's. */
 #ifndef BUZORINDE_H
 #define BUZORINDE_H
 

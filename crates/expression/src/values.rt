@@ -33,7 +33,8 @@ pub enum Evaluation {
     Refused { number: u32, row: u32 },
 }
 
-// Value and level in one word, the level above. The recursion answers so, since one word comes back in a register and a struct through memory.
+// Value and level in one word, the level above. The recursion answers so, since one word comes back in a register and a struct
+// through memory.
 fn pack(value: u32, level: Marks) -> u64
     ensures { λ r. ⌜ valuedIn r ≡ record { value = value; level = level } ⌝ }
 {
@@ -46,7 +47,7 @@ fn unpack(word: u64) -> Valued
 {
     Valued {
         value: (word % WORD_VALUES) as u32,
-        level: (word / WORD_VALUES) as u32,
+        level: (word / WORD_VALUES) as Marks,
     }
 }
 

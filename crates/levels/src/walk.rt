@@ -8,16 +8,15 @@ use rules::Marks;
 use rules::VARIABLES;
 ghost use mathlib.Core.Bool.{_&&_};
 ghost use mathlib.Core.Path.{_≡_};
-ghost use Prim.Native.Nat.{ℕ, _+_, _<_};
+ghost use Prim.Native.Nat.{_<_};
 ghost use lib.Dec.{eqb};
 ghost use lib.ListN.{length};
-ghost use Rattle.rules.specs.Limits.{width};
 ghost use Rattle.rules.specs.Rows.{rowsOf};
 ghost use Rattle.rules.specs.Trees.{exprAt, stmtAt};
 ghost use Rattle.rules.specs.LevelRules.{under};
-ghost use Rattle.rules.specs.LevelCheck.{walk, rounds};
+ghost use Rattle.rules.specs.LevelCheck.{walk};
 ghost use Rattle.rules.specs.Sound.{Sound};
-ghost use Rattle.levels.specs.Found.{lowerOf, failedAt, foundOf};
+ghost use Rattle.levels.specs.Found.{lowerOf, failedAt, foundOf, loopFound};
 
 // What a walk finds: the marks after the statement, and its lowest failing row and 1, or 0 where no output fails.
 pub struct Found {
@@ -50,7 +49,9 @@ fn failing_at(
     context: bool,
     marks: Marks,
 ) -> u32
-    requires { ⌜ Sound (rowsOf (now (now table))) × (row < length (rowsOf (now (now table)))) × (shown < length (rowsOf (now (now table)))) ⌝ }
+    requires { ⌜
+        Sound (rowsOf (now (now table))) × (row < length (rowsOf (now (now table))))
+        × (shown < length (rowsOf (now (now table)))) ⌝ }
     ensures { λ r. ⌜ r ≡ failedAt (eqb channel 0 && under (exprAt (rowsOf (now (now (table .entry)))) shown) context marks) row ⌝ }
 {
     if channel != 0 {
@@ -65,8 +66,10 @@ fn failing_at(
 // Walks a loop's body from the incoming set, adds what comes back, and walks again until nothing is added. The walk that adds
 // nothing started from the final set, so what failed in it is what fails. Each walk but the last adds a variable.
 fn walk_loop(table: &&[u32], test: u32, body: u32, context: bool, marks: Marks) -> Found
-    requires { ⌜ Sound (rowsOf (now (now table))) × (test < length (rowsOf (now (now table)))) × (body < length (rowsOf (now (now table)))) ⌝ }
-    ensures { λ r. ⌜ r ≡ foundOf (rounds (width + 1) (λ (loop : ℕ). walk (stmtAt (rowsOf (now (now (table .entry)))) body) (under (exprAt (rowsOf (now (now (table .entry)))) test) context loop) loop) marks) ⌝ }
+    requires { ⌜
+        Sound (rowsOf (now (now table))) × (test < length (rowsOf (now (now table))))
+        × (body < length (rowsOf (now (now table)))) ⌝ }
+    ensures { λ r. ⌜ r ≡ loopFound (rowsOf (now (now (table .entry)))) test body context marks ⌝ }
 {
     let mut set = marks;
     let mut left = VARIABLES + 1;

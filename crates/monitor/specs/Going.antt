@@ -3,6 +3,9 @@ use Prim.Native.Nat.{ℕ, _-_, _≤_}
 use mathlib.Core.List.{List}
 use mathlib.Core.Path.{_≡_}
 use lib.ListN.{length}
+use Rattle.rules.specs.declared.Answer.{Answer}
+use Rattle.rules.specs.declared.Ended.{Ended}
+use Rattle.rules.specs.declared.Memory.{Memory}
 use Rattle.rules.specs.declared.Row.{Row}
 use Rattle.rules.specs.Running.{outcome, run}
 use Rattle.rules.specs.Answers.{termsOf}
@@ -10,6 +13,10 @@ use Rattle.step.specs.declared.Held.{Held}
 use Rattle.step.specs.Denoted.{Arrays, arrays, stateOf, Holds}
 use Rattle.step.specs.Turns.{Kept}
 use Rattle.monitor.specs.declared.Reached.{Reached}
+
+-- what a refused run answers: 0 steps and 0 records, memory and marks as given
+abbrev pub turnedAway : ℕ → ℕ → Memory → ℕ → Answer
+turnedAway number row memory marks = record { ended = Ended.Refused number row; steps = 0; records = 0; memory = memory; marks = marks }
 
 -- the arrays afterwards
 abbrev pub leftIn : Reached → List ℕ → List ℕ → List ℕ → Arrays

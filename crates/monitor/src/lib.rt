@@ -10,7 +10,6 @@ use step::Held;
 use step::SETS;
 use step::Turn;
 ghost use mathlib.Core.Path.{_≡_};
-ghost use Rattle.rules.specs.declared.Ended.{Ended};
 ghost use Rattle.rules.specs.declared.Judged.{Judged};
 ghost use Prim.Native.Nat.{_^_, _≤_};
 ghost use lib.ListN.{length};
@@ -19,7 +18,7 @@ ghost use Rattle.rules.specs.Judging.{judge};
 ghost use Rattle.rules.specs.Rows.{rowsOf};
 ghost use Rattle.rules.specs.Answers.{inputs, answered, Tells, RunAnswers};
 ghost use Rattle.step.specs.Denoted.{arrays, Holds};
-ghost use Rattle.monitor.specs.Going.{Went};
+ghost use Rattle.monitor.specs.Going.{turnedAway, Went};
 
 // "the lent trace exceeds 16,384 words"
 const MOST_TRACE_WORDS: usize = 16384;
@@ -90,7 +89,7 @@ fn go_on(
 
 // What a refused run answers: 0 steps and 0 records, memory and marks as given.
 fn turned_away(number: u32, row: u32, memory: Memory, marks: Marks) -> Answer
-    ensures { λ r. ⌜ r ≡ record { ended = Ended.Refused number row; steps = 0; records = 0; memory = record { words = memory .words }; marks = marks } ⌝ }
+    ensures { λ r. ⌜ r ≡ turnedAway number row memory marks ⌝ }
 {
     Answer {
         ended: Ended::Refused { number, row },
@@ -101,7 +100,8 @@ fn turned_away(number: u32, row: u32, memory: Memory, marks: Marks) -> Answer
     }
 }
 
-// Runs the recipe of an accepted table with a trace whose records a word can count: the arrays are prepared, the run goes on until it ends, and the answer is put together.
+// Runs the recipe of an accepted table with a trace whose records a word can count: the arrays are prepared, the run goes on
+// until it ends, and the answer is put together.
 fn run_accepted(
     table: &[u32],
     memory: Memory,

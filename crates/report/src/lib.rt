@@ -190,7 +190,8 @@ fn put_run(verdict: u32, place: u32, answer: Answer, trace: &[u32], out: &mut [u
 fn write_run(verdict: u32, place: u32, answer: Answer, trace: &[u32], out: &mut [u8]) -> Wrote
     ensures { λ r. ⌜
         (record { said = saidOfWrote r; out = now (out .exit) })
-        ≡ runWritten (answer .records) (runText verdict place (wholeOf answer (now (trace .entry)))) (now (trace .entry)) (now (out .entry)) ⌝ }
+        ≡ runWritten (answer .records) (runText verdict place (wholeOf answer (now (trace .entry))))
+        (now (trace .entry)) (now (out .entry)) ⌝ }
 {
     let records = answer.records as usize;
     if trace.len() < RECORD_WORDS * records {

@@ -86,7 +86,9 @@ fn place(word: u32) -> usize
 // Refusal 5 at the lowest row to which it applies, of rows to which neither 2 nor 3 applies.
 pub fn judge_depths(table: &[u32], rows: u32) -> Judged
     requires { ⌜ (rows ≤ mostRows) × (rows ≡ length (rowsOf (now table))) ⌝ }
-    requires { ⌜ (refusedWords (rowsOf (now table)) ≡ Judged.Accepted) × (refusedChildren (rowsOf (now table)) ≡ Judged.Accepted) ⌝ }
+    requires { ⌜
+        (refusedWords (rowsOf (now table)) ≡ Judged.Accepted)
+        × (refusedChildren (rowsOf (now table)) ≡ Judged.Accepted) ⌝ }
     ensures { λ r. ⌜ r ≡ refusedDepths (rowsOf (now (table .entry))) ⌝ }
 {
     let mut depths = [Depth {
