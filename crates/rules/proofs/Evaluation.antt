@@ -10,7 +10,7 @@ use Rattle.rules.specs.LevelCheck.{rested, added, rounds}
 use Rattle.rules.specs.Answers.{judgement, answered, termsOf, answer, traceWordsOf, traceAfter, advised, advice}
 use Rattle.rules.specs.Cases.{wordsOf, memoryOf, answerTo, resultOf, recordless}
 use Rattle.rules.specs.Starred.{starred, Starred}
-use Rattle.rules.specs.Further.{further, Further}
+use Rattle.rules.specs.Further.{further, Further, twoOutputs, RoomlessGoesOn}
 use Rattle.rules.specs.Refusals.{operations, grown, judgements, traced, longest, CaseJ, CaseK, Longest}
 
 -- Whoever unfolds this unfolds every rule.
@@ -25,6 +25,10 @@ starred-met = refl
 pub further-met : Further
 unfolding rules further
 further-met = refl
+
+pub roomless-goes-on : RoomlessGoesOn
+unfolding rules twoOutputs
+roomless-goes-on = (refl, refl)
 
 pub J-met : CaseJ
 unfolding rules operations

@@ -1,10 +1,15 @@
 -- Runs that A to I do not cover, with everything that is expected of each: L to P, the document's whole case, a denied
 -- output with no budget left, and runs that are refused.
 use Prim.Native.Nat.{ℕ}
+use mathlib.Core.Path.{_≡_}
 use mathlib.Core.List.{List, [], _∷_}
 use lib.ListN.{replicate}
-use Rattle.rules.specs.Answers.{verdict, refused, pass, fail}
-use Rattle.rules.specs.Cases.{Quad, memoryOf, Case, Met, usual, usualMarks, usualBudget, usualTrace, recordless}
+use Rattle.rules.specs.declared.Ended.{Ended}
+use Rattle.rules.specs.Rows.{rowsOf}
+use Rattle.rules.specs.Trees.{recipe}
+use Rattle.rules.specs.Running.{State, start, run, outcome}
+use Rattle.rules.specs.Answers.{verdict, refused, pass, fail, reached, termsOf}
+use Rattle.rules.specs.Cases.{wordsOf, Quad, memoryOf, Case, Met, usual, usualMarks, usualBudget, usualTrace, recordless}
 
 -- L. v1:=0; if v0 then (if v2 then v1:=1 else skip) else skip; output settled v1
 abbrev tableL : List Quad
@@ -135,3 +140,24 @@ further = runL ∷ runM ∷ runN ∷ runO ∷ runP ∷ runWhole ∷ runDenied �
 -- The claim: every one of these runs comes out whole as expected.
 abbrev pub Further : Type 0
 Further = Met further
+
+-- output settled 5; output settled 6
+abbrev tableTwo : List Quad
+tableTwo = (8, 5, 0, 0) ∷ (5, 0, 0, 0) ∷ (8, 6, 0, 0) ∷ (5, 0, 2, 0) ∷ (2, 1, 3, 0) ∷ []
+
+unfoldable pub twoOutputs : State
+twoOutputs = start (recipe (rowsOf (wordsOf tableTwo))) (memoryOf []) 0
+
+-- The claim: with no room the run ends at the first output, in the state in which it was; gone on with from there, with room for
+-- two records, it writes both.
+abbrev pub RoomlessGoesOn : Type 0
+RoomlessGoesOn =
+    (run (termsOf 0) 10 twoOutputs ≡ outcome (Ended.NoRoom 1) twoOutputs)
+    × (reached (run (termsOf 4) 10 (run (termsOf 0) 10 twoOutputs .state))
+    ≡ record {
+      said = verdict 0 0;
+      steps = 2;
+      records = record { channel = 0; value = 5 } ∷ record { channel = 0; value = 6 } ∷ [];
+      memory = memoryOf [];
+      marks = 0;
+    })
