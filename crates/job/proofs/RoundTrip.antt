@@ -7,11 +7,10 @@ use mathlib.Core.Path.{_≡_, sym, ap, _∙_}
 use lib.ListN.{length, length-append}
 use Rattle.rules.specs.Limits.{rowWords, mostRows, mostJobBytes}
 use Rattle.lines.specs.Limits.{mostWord, mostDigits}
-use Rattle.lines.specs.Lines.{budgetKey, roomKey, levelsKey, inputsKey, inKey, rowsKey, rowKey, rowKeys, inRange, lineOf, Lines, lines, onLine, linesOf, lineText, oneText}
+use Rattle.lines.specs.Lines.{budgetKey, rowsKey, rowKey, rowKeys, inRange, lineOf, Lines, lines, onLine, linesOf, lineText, oneText}
 use Rattle.lines.proofs.LineTrip.{range-parts, range-four, line-back, one-line, line-few, one-few}
-use Rattle.job.specs.Limits.{mostRoom, mostInputs, firstInput}
-use Rattle.job.specs.Jobs.{Job, Told, told, one, many, finish, inLine, rowLine, readTable, readInputs, readCount, readLevels, readRoom, readBudget, inputsText, tableText, jobText, Good, RoundTrip}
-use Rattle.job.proofs.JobLaws.{one-told, job-sized}
+use Rattle.job.specs.Jobs.{Job, Told, told, one, many, finish, Form, firstInput, formAt, numberLine, numberLines, jobOf, rowLine, readTable, readInputs, readLines, headOf, numbersText, tableText, jobText, Good, RoundTrip}
+use Rattle.job.proofs.JobLaws.{input-form, one-told, job-sized}
 
 -- ---- lines
 
@@ -20,18 +19,35 @@ one-back : (at : ℕ) (key : List ℕ) (most value : ℕ) (text : List ℕ) (mor
 one-back at key most value text more h within =
     sym (one-told at (lineOf (key ∷ []) most (oneText key value ++ text)) more value text (sym (one-line key most value text h within)))
 
-inputs-back : (values : List ℕ) (at : ℕ) (before text : List ℕ) → inRange mostWord values ≡ true
-    → linesOf inLine (length values) at before (inputsText values ++ text) ≡ lines (before ++ values) text
-unfolding linesOf onLine inputsText inLine
-inputs-back [] at before text e = ap (λ (l : List ℕ). lines l text) (sym (append-nil before))
-inputs-back (value ∷ values) at before text e =
-    let parts = range-parts mostWord value values e in
-    ap (λ (l : List ℕ). onLine (linesOf inLine (length values) (at + 1)) at before (lineOf (inKey ∷ []) mostWord l))
-    (append-assoc (oneText inKey value) (inputsText values) text)
-    ∙ ap (onLine (linesOf inLine (length values) (at + 1)) at before)
-    (one-line inKey mostWord value (inputsText values ++ text) (omega arith) (parts .0))
-    ∙ inputs-back values (at + 1) (before ++ (value ∷ [])) text (parts .1)
+-- no key of one number is longer than `budget=`
+abbrev mostKey : ℕ
+mostKey = length budgetKey
+
+-- each number is in the range of its line, whose key is short
+abbrev Fit : ℕ → List ℕ → Type 0
+Fit at [] = Unit {0}
+Fit at (value ∷ values) =
+    (value ≤ formAt at .most) × (formAt at .most ≤ mostWord) × (length (formAt at .key) ≤ mostKey) × Fit (at + 1) values
+
+numbers-back : (values : List ℕ) (at : ℕ) (before text : List ℕ) → Fit at values
+    → numberLines (length values) at before (numbersText at values ++ text) ≡ lines (before ++ values) text
+unfolding numberLines numberLine onLine numbersText
+numbers-back [] at before text w = ap (λ (l : List ℕ). lines l text) (sym (append-nil before))
+numbers-back (value ∷ values) at before text w =
+    ap (λ (l : List ℕ). onLine (numberLines (length values) (at + 1)) at before (numberLine at l))
+    (append-assoc (oneText (formAt at .key) value) (numbersText (at + 1) values) text)
+    ∙ ap (onLine (numberLines (length values) (at + 1)) at before)
+    (one-line (formAt at .key) (formAt at .most) value (numbersText (at + 1) values ++ text) (w .1) (w .0))
+    ∙ numbers-back values (at + 1) (before ++ (value ∷ [])) text (w .3)
     ∙ ap (λ (l : List ℕ). lines l text) (append-assoc before (value ∷ []) values)
+
+inputs-fit : (values : List ℕ) (at : ℕ) → firstInput ≤ at → inRange mostWord values ≡ true → Fit at values
+inputs-fit [] at h e = tt
+inputs-fit (value ∷ values) at h e =
+    let parts = range-parts mostWord value values e in
+    let most = ap (λ (f : Form). f .most) (input-form at h) in
+    let key = ap (λ (f : Form). length (f .key)) (input-form at h) in
+    (omega (arith, parts .0, most), omega (arith, most), omega (arith, key), inputs-fit values (at + 1) (omega arith) (parts .1))
 
 table-back : (rows at : ℕ) (before words text : List ℕ) → length words ≡ rowWords * rows → inRange mostWord words ≡ true
     → linesOf rowLine rows at before (tableText rows words ++ text) ≡ lines (before ++ words) text
@@ -53,12 +69,17 @@ table-back (suc rows) at before (k ∷ p ∷ q ∷ r ∷ words) text n e =
 
 -- ---- the bytes of a job: never too many
 
-inputs-few : (values : List ℕ) → inRange mostWord values ≡ true → length (inputsText values) ≤ (length inKey + mostDigits + 1) * length values
-unfolding inputsText
-inputs-few [] e = omega arith
-inputs-few (value ∷ values) e =
-    let parts = range-parts mostWord value values e in
-    omega (arith, length-append (oneText inKey value) (inputsText values), one-few inKey value (parts .0), inputs-few values (parts .1))
+numbers-few : (values : List ℕ) (at : ℕ) → Fit at values → length (numbersText at values) ≤ (mostKey + mostDigits + 1) * length values
+unfolding numbersText
+numbers-few [] at w = omega arith
+numbers-few (value ∷ values) at w =
+    omega (
+      arith,
+      length-append (oneText (formAt at .key) value) (numbersText (at + 1) values),
+      one-few (formAt at .key) value (omega (arith, w .0, w .1)),
+      w .2,
+      numbers-few values (at + 1) (w .3),
+    )
 
 table-few : (rows : ℕ) (words : List ℕ) → length words ≡ rowWords * rows → inRange mostWord words ≡ true
     → length (tableText rows words) ≤ (length rowKey + mostDigits + (mostDigits + 1) * 3 + 1) * rows
@@ -83,28 +104,27 @@ module _ (rows : ℕ) (job : Job) (good : Good rows job) where
   tableLines : List ℕ
   tableLines = oneText rowsKey rows ++ tableText rows (job .table)
 
-  inputLines : List ℕ
-  inputLines = inputsText (job .inputs) ++ tableLines
+  head-fit : Fit 1 (headOf job)
+  unfolding formAt
+  head-fit =
+      (good .budget, omega arith, omega arith, (good .room, omega arith, omega arith, (good .marks, omega arith, omega arith, (good .inputs, omega arith, omega arith, tt))))
+
+  values-fit : Fit firstInput (job .inputs)
+  values-fit = inputs-fit (job .inputs) firstInput (omega arith) (good .values)
 
   job-few : length (jobText rows job) ≤ mostJobBytes
-  unfolding jobText tableLines inputLines
+  unfolding jobText tableLines
   job-few =
-      let six = length-append (oneText rowsKey rows) (tableText rows (job .table)) in
-      let five = length-append (inputsText (job .inputs)) tableLines in
-      let four = length-append (oneText inputsKey (length (job .inputs))) inputLines in
-      let three = length-append (oneText levelsKey (job .marks)) (oneText inputsKey (length (job .inputs)) ++ inputLines) in
-      let two = length-append (oneText roomKey (job .room)) (oneText levelsKey (job .marks) ++ (oneText inputsKey (length (job .inputs)) ++ inputLines)) in
-      let first = length-append (oneText budgetKey (job .budget)) (oneText roomKey (job .room) ++ (oneText levelsKey (job .marks) ++ (oneText inputsKey (length (job .inputs)) ++ inputLines))) in
-      let b = one-few budgetKey (job .budget) (good .budget) in
-      let r = one-few roomKey (job .room) (omega (arith, good .room)) in
-      let l = one-few levelsKey (job .marks) (good .marks) in
-      let i = one-few inputsKey (length (job .inputs)) (omega (arith, good .inputs)) in
-      let v = inputs-few (job .inputs) (good .values) in
+      let three = length-append (oneText rowsKey rows) (tableText rows (job .table)) in
+      let two = length-append (numbersText firstInput (job .inputs)) tableLines in
+      let first = length-append (numbersText 1 (headOf job)) (numbersText firstInput (job .inputs) ++ tableLines) in
+      let h = numbers-few (headOf job) 1 head-fit in
+      let v = numbers-few (job .inputs) firstInput values-fit in
       let c = one-few rowsKey rows (omega (arith, good .count)) in
       let t = table-few rows (job .table) (good .table) (good .words) in
       omega (arith, good .inputs, good .count)
 
-  table-read : readTable (job .budget) (job .room) (job .marks) (firstInput + length (job .inputs)) (job .inputs) tableLines ≡ told job
+  table-read : readTable (firstInput + length (job .inputs)) (headOf job) (job .inputs) tableLines ≡ told job
   unfolding readTable tableLines many finish
   table-read =
       one-back at rowsKey mostRows rows (tableText rows (job .table)) (λ n text. many (linesOf rowLine n (at + 1) [] text) (ending n)) (omega arith) (good .count)
@@ -115,26 +135,14 @@ module _ (rows : ℕ) (job : Job) (good : Good rows job) where
       at = firstInput + length (job .inputs)
 
       ending : ℕ → List ℕ → List ℕ → Told
-      ending n table end =
-          finish (at + 1 + n)
-          (record { budget = job .budget; room = job .room; marks = job .marks; inputs = job .inputs; table = table })
-          end
+      ending n table end = finish (at + 1 + n) (jobOf (headOf job) (job .inputs) table) end
 
-  inputs-read : readInputs (job .budget) (job .room) (job .marks) (length (job .inputs)) inputLines ≡ told job
-  unfolding readInputs inputLines many
-  inputs-read =
-      ap (λ (l : Lines). many l (readTable (job .budget) (job .room) (job .marks) (firstInput + length (job .inputs))))
-      (inputs-back (job .inputs) firstInput [] tableLines (good .values))
-      ∙ table-read
-
-  job-read : readBudget (jobText rows job) ≡ told job
-  unfolding readBudget readRoom readLevels readCount jobText tableLines inputLines
+  job-read : readLines (jobText rows job) ≡ told job
+  unfolding readLines readInputs jobText tableLines many
   job-read =
-      one-back 1 budgetKey mostWord (job .budget) _ readRoom (omega arith) (good .budget)
-      ∙ one-back 2 roomKey mostRoom (job .room) _ (readLevels (job .budget)) (omega arith) (good .room)
-      ∙ one-back 3 levelsKey mostWord (job .marks) _ (readCount (job .budget) (job .room)) (omega arith) (good .marks)
-      ∙ one-back 4 inputsKey mostInputs (length (job .inputs)) inputLines (readInputs (job .budget) (job .room) (job .marks)) (omega arith) (good .inputs)
-      ∙ inputs-read
+      ap (λ (l : Lines). many l readInputs) (numbers-back (headOf job) 1 [] (numbersText firstInput (job .inputs) ++ tableLines) head-fit)
+      ∙ ap (λ (l : Lines). many l (readTable (firstInput + length (job .inputs)) (headOf job))) (numbers-back (job .inputs) firstInput [] tableLines values-fit)
+      ∙ table-read
 
 -- The text of every job whose numbers are in range reads as that job.
 pub round-trip : RoundTrip

@@ -2,8 +2,8 @@
 use Prim.Native.Nat.{ℕ, zero, suc, _+_, _*_, _/_, _≤_}
 use native.Mathlib.Omega.{arith}
 use mathlib.Core.Bool.{Bool, true, false}
-use mathlib.Core.List.{List, [], _∷_, _++_}
-use mathlib.Core.Path.{_≡_, refl, sym, ap, _∙_}
+use mathlib.Core.List.{List, [], _∷_, _++_, append-nil, append-assoc}
+use mathlib.Core.Path.{_≡_, refl, sym, ap, _∙_, subst}
 use lib.Dec.{leb, ltb}
 use lib.ListN.{length, getD, length-append}
 use borrow.Author.Tests.{leb-true}
@@ -12,9 +12,10 @@ use Rattle.lines.specs.Limits.{mostWord}
 use Rattle.job.specs.Limits.{mostRoom, tableWords}
 use Rattle.lines.specs.Numbers.{Number, noNumber, number}
 use Rattle.lines.specs.Lines.{lineEnd, afterKey, rowKeys, Fields, noFields, fields, field, put, onward, fieldsOf, Line, line, faulty, inRange, ended, lineOf, Lines, lines, broken, onLine, linesOf}
-use Rattle.job.specs.Jobs.{Job, Told, told, one, many, finish, rowLine, readTable, readInputs, readCount, readLevels, readRoom, readBudget, sized, readJob}
+use Rattle.job.specs.Jobs.{Job, Told, told, one, many, finish, head, formAt, numberLine, numberLines, jobOf, rowLine, readTable, readInputs, readLines, sized, readJob}
 use Rattle.lines.proofs.NumberLaws.{both-true}
-use Rattle.lines.proofs.LineLaws.{closed-range, ended-range}
+use Rattle.lines.proofs.LineLaws.{closed-range, ended-range, line-within}
+use Rattle.job.proofs.JobLaws.{Within, within-at}
 
 -- ---- how a line must have been where a job was read
 
@@ -58,18 +59,18 @@ fields-counted (key ∷ keys) text values rest e = by (field key text) (λ t vs 
     by noNumber ih h = let z : _≡_ {A = ℕ} 0 1 = cc in absurd (omega arith)
     by (number value t) ih h = after value (fieldsOf keys t) (ih t) h
 
-row-counted : (text values rest : List ℕ) → line values rest ≡ rowLine text → length values ≡ rowWords
-unfolding rowLine lineOf ended
-row-counted text values rest e = by (fieldsOf rowKeys text) refl e
+line-counted : (keys : List (List ℕ)) (most : ℕ) (text values rest : List ℕ) → line values rest ≡ lineOf keys most text → length values ≡ length keys
+unfolding lineOf ended
+line-counted keys most text values rest e = by (fieldsOf keys text) refl e
   where
-    by : (f : Fields) → f ≡ fieldsOf rowKeys text → line values rest ≡ ended mostWord f → length values ≡ rowWords
+    by : (f : Fields) → f ≡ fieldsOf keys text → line values rest ≡ ended most f → length values ≡ length keys
     by noFields h l = let z : _≡_ {A = ℕ} 0 1 = cc in absurd (omega arith)
     by (fields vs t) h l =
-        ap length (closed-range (afterKey lineEnd t) (inRange mostWord vs) vs values rest l .1) ∙ fields-counted rowKeys text vs t (sym h)
+        ap length (closed-range (afterKey lineEnd t) (inRange most vs) vs values rest l .1) ∙ fields-counted keys text vs t (sym h)
 
 rows-counted : (rows at : ℕ) (before text values rest : List ℕ) → linesOf rowLine rows at before text ≡ lines values rest
     → length values ≡ length before + rowWords * rows
-unfolding linesOf onLine
+unfolding linesOf onLine rowLine
 rows-counted zero at before text values rest e =
     let v : values ≡ before = cc in
     ap length v ∙ omega arith
@@ -79,8 +80,42 @@ rows-counted (suc rows) at before text values rest e =
     by : (l : Line) → l ≡ rowLine text
         → ((vs t : List ℕ) → linesOf rowLine rows (at + 1) (before ++ vs) t ≡ lines values rest → length values ≡ length (before ++ vs) + rowWords * rows)
         → onLine (linesOf rowLine rows (at + 1)) at before l ≡ lines values rest → length values ≡ length before + rowWords * suc rows
-    by (line vs t) h ih l = omega (arith, ih vs t l, length-append before vs, row-counted text vs t h)
+    by (line vs t) h ih l = omega (arith, ih vs t l, length-append before vs, line-counted rowKeys mostWord text vs t h)
     by (faulty refusal) h ih l = let z : _≡_ {A = ℕ} 0 1 = cc in absurd (omega arith)
+
+-- ---- lines of one number that were read: each number is in the range of its line
+
+record Numbers (at : ℕ) (before values : List ℕ) : Type 0 where
+  pub after : List ℕ
+  pub all : values ≡ before ++ after
+  pub within : Within at after
+
+numbers-read : (n at : ℕ) (before text values rest : List ℕ) → lines values rest ≡ numberLines n at before text → Numbers at before values
+unfolding numberLines onLine numberLine
+numbers-read zero at before text values rest e =
+    let v : values ≡ before = cc in
+    record { after = []; all = v ∙ sym (append-nil before); within = tt }
+numbers-read (suc n) at before text values rest e =
+    by (numberLine at text) refl (λ vs t h. numbers-read n (at + 1) (before ++ vs) t values rest h) e
+  where
+    by : (l : Line) → l ≡ numberLine at text
+        → ((vs t : List ℕ) → lines values rest ≡ numberLines n (at + 1) (before ++ vs) t → Numbers (at + 1) (before ++ vs) values)
+        → lines values rest ≡ onLine (numberLines n (at + 1)) at before l → Numbers at before values
+    by (faulty refusal) h ih l = let z : _≡_ {A = ℕ} 0 1 = cc in absurd (omega arith)
+    by (line [] t) h ih l = absurd (omega (arith, line-counted _ _ text [] t h))
+    by (line (v ∷ w ∷ vs) t) h ih l = absurd (omega (arith, line-counted _ _ text (v ∷ w ∷ vs) t h))
+    by (line (v ∷ []) t) h ih l =
+        let others = ih (v ∷ []) t l in
+        record {
+          after = v ∷ others .after;
+          all = others .all ∙ append-assoc before (v ∷ []) (others .after);
+          within = (line-within _ _ v text t h, others .within);
+        }
+
+pub numbers-within : (n at : ℕ) (text values rest : List ℕ) → lines values rest ≡ numberLines n at [] text → Within at values
+numbers-within n at text values rest e =
+    let read = numbers-read n at [] text values rest e in
+    subst (Within at) (sym (read .all)) (read .within)
 
 -- ---- a job that was read
 
@@ -89,40 +124,35 @@ pub record Fits (job : Job) : Type 0 where
   pub words : length (job .table) ≤ tableWords
   pub whole : length (job .table) ≡ rowWords * (length (job .table) / rowWords)
 
-module _ (budget room marks : ℕ) (job : Job) (within : room ≤ mostRoom) where
-  table-fits : (at : ℕ) (inputs text : List ℕ) → told job ≡ readTable budget room marks at inputs text → Fits job
+module _ (job : Job) (numbers : List ℕ) (within : getD numbers 1 0 ≤ mostRoom) where
+  table-fits : (at : ℕ) (values text : List ℕ) → told job ≡ readTable at numbers values text → Fits job
   unfolding readTable finish
-  table-fits at inputs text e =
+  table-fits at values text e =
       one-read at _ mostRows text _ job e
       (λ rows afterRows few counted.
       many-read (linesOf rowLine rows (at + 1) [] afterRows) _ job counted
       (λ table end read ending. by rows table end few (rows-counted rows (at + 1) [] afterRows table end read) ending))
     where
       by : (rows : ℕ) (table end : List ℕ) → rows ≤ mostRows → length table ≡ 0 + rowWords * rows
-          → told job
-          ≡ finish (at + 1 + rows) (record { budget = budget; room = room; marks = marks; inputs = inputs; table = table }) end → Fits job
+          → told job ≡ finish (at + 1 + rows) (jobOf numbers values table) end → Fits job
       by rows table [] few n ending =
-          let r : job .room ≡ room = cc in
+          let r : job .room ≡ getD numbers 1 0 = cc in
           let t : job .table ≡ table = cc in
           let l : length (job .table) ≡ 0 + rowWords * rows = ap length t ∙ n in
           record { room = omega arith; words = omega arith; whole = omega arith }
       by rows table (byte ∷ end) few n ending = let z : _≡_ {A = ℕ} 0 1 = cc in absurd (omega arith)
 
-  inputs-fit : (inputs : ℕ) (text : List ℕ) → told job ≡ readInputs budget room marks inputs text → Fits job
+  inputs-fit : (text : List ℕ) → told job ≡ readInputs numbers text → Fits job
   unfolding readInputs
-  inputs-fit inputs text e = many-read _ _ job e (λ values rest read more. table-fits _ values rest more)
+  inputs-fit text e = many-read _ _ job e (λ values rest read more. table-fits _ values rest more)
 
 -- The room and the table of a job that was read are within what a job may have.
 pub told-fits : (text : List ℕ) (job : Job) → told job ≡ readJob text → Fits job
-unfolding readJob sized readBudget readRoom readLevels readCount
+unfolding readJob sized readLines formAt
 told-fits text job e = by (ltb mostJobBytes (length text)) e
   where
     by : (b : Bool) → told job ≡ sized b text → Fits job
     by true h = let z : _≡_ {A = ℕ} 0 1 = cc in absurd (omega arith)
     by false h =
-        one-read 1 _ _ text _ job h
-        (λ budget t₁ b more₁.
-        one-read 2 _ mostRoom t₁ _ job more₁
-        (λ room t₂ within more₂.
-        one-read 3 _ _ t₂ _ job more₂
-        (λ marks t₃ m more₃. one-read 4 _ _ t₃ _ job more₃ (λ inputs t₄ i more₄. inputs-fit budget room marks job within inputs t₄ more₄))))
+        many-read _ _ job h
+        (λ numbers rest read more. inputs-fit job numbers (within-at numbers 1 1 2 (numbers-within (length head) 1 text numbers rest (sym read)) refl) rest more)

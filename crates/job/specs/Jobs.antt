@@ -1,5 +1,5 @@
 -- Document 01, "Job and report": what a job's text reads as, and the text of a job.
-use Prim.Native.Nat.{ℕ, zero, suc, _+_, _*_, _≤_}
+use Prim.Native.Nat.{ℕ, zero, suc, _+_, _-_, _*_, _≤_}
 use mathlib.Core.Bool.{Bool, true, false}
 use mathlib.Core.Path.{_≡_}
 use mathlib.Core.List.{List, [], _∷_, _++_}
@@ -7,8 +7,8 @@ use lib.Dec.{ltb}
 use lib.ListN.{length, getD, take, drop}
 use Rattle.rules.specs.Limits.{rowWords, mostRows, mostJobBytes}
 use Rattle.lines.specs.Limits.{mostWord, lacksForm}
-use Rattle.job.specs.Limits.{mostRoom, mostInputs, tooLong, firstInput}
-use Rattle.lines.specs.Lines.{budgetKey, roomKey, levelsKey, inputsKey, inKey, rowsKey, rowKeys, Line, line, faulty, inRange, lineOf, Lines, lines, broken, linesOf, lineText, oneText}
+use Rattle.job.specs.Limits.{mostRoom, mostInputs, tooLong}
+use Rattle.lines.specs.Lines.{budgetKey, roomKey, levelsKey, inputsKey, inKey, rowsKey, rowKeys, Line, line, faulty, inRange, lineOf, Lines, lines, broken, onLine, linesOf, lineText, oneText}
 
 -- What a job says: budget, room and mark set, the values of v0 onward, and the words of the table.
 pub record Job : Type 0 where
@@ -37,59 +37,83 @@ unfoldable pub finish : ℕ → Job → List ℕ → Told
 finish at job [] = told job
 finish at job (byte ∷ text) = untold lacksForm at
 
--- "that many `in=` lines for v0 onward"
-unfoldable pub inLine : List ℕ → Line
-inLine text = lineOf (inKey ∷ []) mostWord text
+-- A line of one number: its key, and the most that the number may be.
+pub record Form : Type 0 where
+  pub key : List ℕ
+  pub most : ℕ
+
+-- "in this order: `budget=`, `room=` (records, 0 to 8192), `levels=`, `inputs=` (0 to 32)"
+abbrev pub head : List Form
+head =
+    record { key = budgetKey; most = mostWord }
+    ∷ record { key = roomKey; most = mostRoom }
+    ∷ record { key = levelsKey; most = mostWord }
+    ∷ record { key = inputsKey; most = mostInputs }
+    ∷ []
+
+-- the line of the first `in=`; "lines count from 1"
+abbrev pub firstInput : ℕ
+firstInput = length head + 1
+
+-- the form of the line of a number: the head's, and after them "`in=` lines for v0 onward"
+unfoldable pub formAt : ℕ → Form
+formAt at = getD head (at - 1) (record { key = inKey; most = mostWord })
+
+unfoldable pub numberLine : ℕ → List ℕ → Line
+numberLine at text = lineOf (formAt at .key ∷ []) (formAt at .most) text
+
+-- so many lines from line at on; before are the numbers of the lines before these
+unfoldable pub numberLines : ℕ → ℕ → List ℕ → List ℕ → Lines
+numberLines zero at before text = lines before text
+numberLines (suc n) at before text = onLine (numberLines n (at + 1)) at before (numberLine at text)
+
+-- the job of a head's numbers, the values of the inputs and the words of a table
+abbrev pub jobOf : List ℕ → List ℕ → List ℕ → Job
+jobOf numbers values words =
+    record { budget = getD numbers 0 0; room = getD numbers 1 0; marks = getD numbers 2 0; inputs = values; table = words }
+
+-- how many inputs a head says
+abbrev pub inputsOf : List ℕ → ℕ
+inputsOf numbers = getD numbers 3 0
 
 -- "that many `row=k,p,q,r` lines"
 unfoldable pub rowLine : List ℕ → Line
 rowLine text = lineOf rowKeys mostWord text
 
 -- "`rows=` (0 to 512), that many `row=k,p,q,r` lines, and then the input ends."; at is the line of `rows=`
-unfoldable pub readTable : ℕ → ℕ → ℕ → ℕ → List ℕ → List ℕ → Told
-readTable budget room marks at inputs text =
+unfoldable pub readTable : ℕ → List ℕ → List ℕ → List ℕ → Told
+readTable at numbers values text =
     one at (lineOf (rowsKey ∷ []) mostRows text)
     (λ rows afterRows.
-    many (linesOf rowLine rows (at + 1) [] afterRows)
-    (λ table end.
-    finish (at + 1 + rows)
-    (record { budget = budget; room = room; marks = marks; inputs = inputs; table = table })
-    end))
+    many (linesOf rowLine rows (at + 1) [] afterRows) (λ words end. finish (at + 1 + rows) (jobOf numbers values words) end))
 
--- "that many `in=` lines for v0 onward": so many inputs, and the rest of the job after them
-unfoldable pub readInputs : ℕ → ℕ → ℕ → ℕ → List ℕ → Told
-readInputs budget room marks inputs text =
-    many (linesOf inLine inputs firstInput [] text) (λ values rest. readTable budget room marks (firstInput + inputs) values rest)
+-- "that many `in=` lines": the rest of a job after its head
+unfoldable pub readInputs : List ℕ → List ℕ → Told
+readInputs numbers text =
+    many (numberLines (inputsOf numbers) firstInput [] text) (readTable (firstInput + inputsOf numbers) numbers)
 
--- "`inputs=` (0 to 32)"
-unfoldable pub readCount : ℕ → ℕ → ℕ → List ℕ → Told
-readCount budget room marks text = one 4 (lineOf (inputsKey ∷ []) mostInputs text) (readInputs budget room marks)
-
--- "`levels=`"
-unfoldable pub readLevels : ℕ → ℕ → List ℕ → Told
-readLevels budget room text = one 3 (lineOf (levelsKey ∷ []) mostWord text) (readCount budget room)
-
--- "`room=` (records, 0 to 8192)"
-unfoldable pub readRoom : ℕ → List ℕ → Told
-readRoom budget text = one 2 (lineOf (roomKey ∷ []) mostRoom text) (readLevels budget)
-
--- "`budget=`"; "lines count from 1"
-unfoldable pub readBudget : List ℕ → Told
-readBudget text = one 1 (lineOf (budgetKey ∷ []) mostWord text) readRoom
+-- a job's lines, the head's first
+unfoldable pub readLines : List ℕ → Told
+readLines text = many (numberLines (length head) 1 [] text) readInputs
 
 -- "Refusal 9 comes first"; it is given "at 0".
 unfoldable pub sized : Bool → List ℕ → Told
 sized true text = untold tooLong 0
-sized false text = readBudget text
+sized false text = readLines text
 
 unfoldable pub readJob : List ℕ → Told
 readJob text = sized (ltb mostJobBytes (length text)) text
 
 -- ---- the text of a job
 
-unfoldable pub inputsText : List ℕ → List ℕ
-inputsText [] = []
-inputsText (value ∷ values) = oneText inKey value ++ inputsText values
+-- the numbers of a job's head
+abbrev pub headOf : Job → List ℕ
+headOf job = job .budget ∷ job .room ∷ job .marks ∷ length (job .inputs) ∷ []
+
+-- lines of one number, from line at on
+unfoldable pub numbersText : ℕ → List ℕ → List ℕ
+numbersText at [] = []
+numbersText at (value ∷ values) = oneText (formAt at .key) value ++ numbersText (at + 1) values
 
 unfoldable pub tableText : ℕ → List ℕ → List ℕ
 tableText zero words = []
@@ -98,11 +122,8 @@ tableText (suc rows) words = lineText rowKeys (take rowWords words) ++ tableText
 -- the lines of a job of so many rows, in the document's order
 unfoldable pub jobText : ℕ → Job → List ℕ
 jobText rows job =
-    oneText budgetKey (job .budget)
-    ++ (oneText roomKey (job .room)
-    ++ (oneText levelsKey (job .marks)
-    ++ (oneText inputsKey (length (job .inputs))
-    ++ (inputsText (job .inputs) ++ (oneText rowsKey rows ++ tableText rows (job .table))))))
+    numbersText 1 (headOf job)
+    ++ (numbersText firstInput (job .inputs) ++ (oneText rowsKey rows ++ tableText rows (job .table)))
 
 -- a job whose numbers are all in range
 pub record Good (rows : ℕ) (job : Job) : Type 0 where

@@ -10,10 +10,6 @@ mostRoom = 8192
 abbrev pub mostInputs : ℕ
 mostInputs = width
 
--- the line of the first `in=`, after four others; "lines count from 1"
-abbrev pub firstInput : ℕ
-firstInput = 5
-
 -- the words of "`rows=` (0 to 512)"
 abbrev pub tableWords : ℕ
 tableWords = rowWords * mostRows

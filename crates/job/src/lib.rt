@@ -13,10 +13,10 @@ ghost use lib.ListN.{length, take, drop};
 ghost use lib.Seq.{sets};
 ghost use Rattle.rules.specs.Limits.{width, rowWords, mostRows};
 ghost use Rattle.lines.specs.Limits.{mostWord};
-ghost use Rattle.job.specs.Limits.{tableWords, firstInput};
+ghost use Rattle.job.specs.Limits.{tableWords};
 ghost use Rattle.lines.specs.Numbers.{zeroByte, beyond, isDigit, digitsOn, numberAt};
 ghost use Rattle.lines.specs.Lines.{afterKey, field, fields, ended, lineOf, linesOf};
-ghost use Rattle.job.specs.Jobs.{untold, inLine, rowLine, readTable, readInputs, readCount, readLevels, readRoom, readJob};
+ghost use Rattle.job.specs.Jobs.{untold, firstInput, numberLine, numberLines, inputsOf, rowLine, readTable, readInputs, readJob};
 ghost use Rattle.job.specs.Read.{keySaid, fieldSaid, lineSaid, rowSaid, LinesRead, filled, saidOfReading, reading};
 
 // Document 01's numbers of a job, as `specs/Limits` has them.
@@ -28,8 +28,19 @@ pub const MOST_ROOM: u64 = 8192;
 
 const TABLE_WORDS: usize = MOST_ROWS * ROW_WORDS;
 
+// The lines of the head, and the places of its numbers.
+const HEAD_LINES: usize = 4;
+
+const BUDGET: usize = 0;
+
+const ROOM: usize = 1;
+
+const LEVELS: usize = 2;
+
+const INPUTS: usize = 3;
+
 // The line of the first input, and of the first row where there is no input.
-const FIRST_INPUT: u32 = 5;
+const FIRST_INPUT: u32 = HEAD_LINES as u32 + 1;
 
 const FIRST_ROW: u32 = FIRST_INPUT + 1;
 
@@ -217,11 +228,18 @@ fn read_line(text: &[u8], at: usize, key: &[u8], most: u64) -> Line
     }
 }
 
-// An input's line.
-fn read_input(text: &[u8], at: usize) -> Line
-    ensures { λ r. ⌜ lineSaid (now (text .entry)) r ≡ inLine (drop at (now (text .entry))) ⌝ }
+// The line of that number: the head's in their order, and after them an input's.
+fn read_number(text: &[u8], at: usize, line: u32) -> Line
+    requires { ⌜ 1 ≤ line ⌝ }
+    ensures { λ r. ⌜ lineSaid (now (text .entry)) r ≡ numberLine line (drop at (now (text .entry))) ⌝ }
 {
-    read_line(text, at, b"in=", MOST_WORD)
+    match line {
+        1 => read_line(text, at, b"budget=", MOST_WORD),
+        2 => read_line(text, at, b"room=", MOST_ROOM),
+        3 => read_line(text, at, b"levels=", MOST_WORD),
+        4 => read_line(text, at, b"inputs=", VARIABLES as u64),
+        _ => read_line(text, at, b"in=", MOST_WORD),
+    }
 }
 
 // The line of a row whose numbers were read, and whose LF is to stand at a place.
@@ -294,18 +312,18 @@ fn read_row(text: &[u8], at: usize) -> RowLine
     close_row(text, after_r, k, p, q, r)
 }
 
-// Reads so many inputs' lines, from line 5 on, into the memory's words.
-fn fill_inputs(text: &[u8], from: usize, count: u32, words: &mut [u32; VARIABLES]) -> Lines
-    requires { ⌜ (length (now words) ≡ width) × (count ≤ width) ⌝ }
+// Reads so many lines of one number, from a line on, into the front of the words.
+fn fill_numbers(text: &[u8], from: usize, line: u32, count: u32, words: &mut [u32]) -> Lines
+    requires { ⌜ (1 ≤ line) × (line ≤ firstInput) × (count ≤ width) × (count ≤ length (now words)) ⌝ }
     ensures { λ r. ⌜
         LinesRead (now (text .entry)) count (now (words .entry)) (now (words .exit)) r
-        (linesOf inLine count firstInput [] (drop from (now (text .entry)))) ⌝ }
+        (numberLines count line [] (drop from (now (text .entry)))) ⌝ }
 {
     let mut at = from;
     let mut i: u32 = 0;
     while i < count {
-        let line = read_input(text, at);
-        match line {
+        let number = read_number(text, at, line + i);
+        match number {
             Line::Number { value, next } => {
                 words[i as usize] = value;
                 at = next;
@@ -314,7 +332,7 @@ fn fill_inputs(text: &[u8], from: usize, count: u32, words: &mut [u32; VARIABLES
             Line::Faulty(number) => {
                 return Lines::Faulty {
                     number,
-                    line: FIRST_INPUT + i,
+                    line: line + i,
                 };
             }
         }
@@ -380,21 +398,14 @@ fn refused(number: u32, line: u32) -> Reading
     }
 }
 
-// The answer to a text whose table stands at a place: after `inputs` values, which are the memory's.
-fn read_table(
-    text: &[u8],
-    at: usize,
-    budget: u32,
-    room: u32,
-    marks: Marks,
-    inputs: u32,
-    memory: Memory,
-) -> Reading
-    requires { ⌜ (inputs ≤ width) × (memory .words ≡ filled width (take inputs (memory .words))) ⌝ }
+// The answer to a text whose table stands at a place, after its head and the inputs, whose values are the memory's.
+fn read_table(text: &[u8], at: usize, numbers: [u32; HEAD_LINES], memory: Memory) -> Reading
+    requires { ⌜ (inputsOf numbers ≤ width) × (memory .words ≡ filled width (take (inputsOf numbers) (memory .words))) ⌝ }
     ensures { λ r. ⌜
         saidOfReading r
-        ≡ reading (readTable budget room marks (firstInput + inputs) (take inputs (memory .words)) (drop at (now (text .entry)))) ⌝ }
+        ≡ reading (readTable (firstInput + inputsOf numbers) numbers (take (inputsOf numbers) (memory .words)) (drop at (now (text .entry)))) ⌝ }
 {
+    let inputs = numbers[INPUTS];
     let count = read_line(text, at, b"rows=", MOST_ROWS as u64);
     match count {
         Line::Faulty(number) => refused(number, FIRST_INPUT + inputs),
@@ -409,9 +420,9 @@ fn read_table(
                     }
                     Reading {
                         read: Read::Job {
-                            budget,
-                            room,
-                            marks,
+                            budget: numbers[BUDGET],
+                            room: numbers[ROOM],
+                            marks: numbers[LEVELS],
                             rows: value,
                         },
                         memory,
@@ -423,51 +434,16 @@ fn read_table(
     }
 }
 
-// The answer to a text whose inputs' lines stand at a place, so many.
-fn read_inputs(text: &[u8], at: usize, budget: u32, room: u32, marks: Marks, inputs: u32) -> Reading
-    requires { ⌜ inputs ≤ width ⌝ }
-    ensures { λ r. ⌜ saidOfReading r ≡ reading (readInputs budget room marks inputs (drop at (now (text .entry)))) ⌝ }
+// The answer to a text whose inputs' lines stand at a place, after its head.
+fn read_inputs(text: &[u8], at: usize, numbers: [u32; HEAD_LINES]) -> Reading
+    requires { ⌜ inputsOf numbers ≤ width ⌝ }
+    ensures { λ r. ⌜ saidOfReading r ≡ reading (readInputs numbers (drop at (now (text .entry)))) ⌝ }
 {
-    let mut memory = Memory {
-        words: [0; VARIABLES],
-    };
-    let lines = fill_inputs(text, at, inputs, &mut memory.words);
+    let mut words = [0; VARIABLES];
+    let lines = fill_numbers(text, at, FIRST_INPUT, numbers[INPUTS], &mut words);
     match lines {
         Lines::Faulty { number, line } => refused(number, line),
-        Lines::Next(next) => read_table(text, next, budget, room, marks, inputs, memory),
-    }
-}
-
-// The answer to a text whose `inputs=` line stands at a place.
-fn read_count(text: &[u8], at: usize, budget: u32, room: u32, marks: Marks) -> Reading
-    ensures { λ r. ⌜ saidOfReading r ≡ reading (readCount budget room marks (drop at (now (text .entry)))) ⌝ }
-{
-    let line = read_line(text, at, b"inputs=", VARIABLES as u64);
-    match line {
-        Line::Faulty(number) => refused(number, 4),
-        Line::Number { value, next } => read_inputs(text, next, budget, room, marks, value),
-    }
-}
-
-// The answer to a text whose `levels=` line stands at a place.
-fn read_levels(text: &[u8], at: usize, budget: u32, room: u32) -> Reading
-    ensures { λ r. ⌜ saidOfReading r ≡ reading (readLevels budget room (drop at (now (text .entry)))) ⌝ }
-{
-    let line = read_line(text, at, b"levels=", MOST_WORD);
-    match line {
-        Line::Faulty(number) => refused(number, 3),
-        Line::Number { value, next } => read_count(text, next, budget, room, value),
-    }
-}
-
-// The answer to a text whose `room=` line stands at a place.
-fn read_room(text: &[u8], at: usize, budget: u32) -> Reading
-    ensures { λ r. ⌜ saidOfReading r ≡ reading (readRoom budget (drop at (now (text .entry)))) ⌝ }
-{
-    let line = read_line(text, at, b"room=", MOST_ROOM);
-    match line {
-        Line::Faulty(number) => refused(number, 2),
-        Line::Number { value, next } => read_levels(text, next, budget, value),
+        Lines::Next(next) => read_table(text, next, numbers, Memory { words }),
     }
 }
 
@@ -478,9 +454,10 @@ pub fn read_job(text: &[u8]) -> Reading
     if MOST_BYTES < text.len() {
         return refused(TOO_LONG, 0);
     }
-    let line = read_line(text, 0, b"budget=", MOST_WORD);
-    match line {
-        Line::Faulty(number) => refused(number, 1),
-        Line::Number { value, next } => read_room(text, next, value),
+    let mut numbers = [0; HEAD_LINES];
+    let lines = fill_numbers(text, 0, 1, HEAD_LINES as u32, &mut numbers);
+    match lines {
+        Lines::Faulty { number, line } => refused(number, line),
+        Lines::Next(next) => read_inputs(text, next, numbers),
     }
 }

@@ -1,11 +1,12 @@
--- `job::read_table` meets its contract. Assumes nothing.
+-- `job::read_table` meets its contract; t3 is the checker's name for the numbers of the head. Assumes nothing.
 use Prim.Native.Nat.{_+_, _*_}
 use mathlib.Core.List.{[], _∷_}
 use mathlib.Core.Path.{refl, sym, ap, _∙_}
 use lib.ListN.{take, drop}
 use denote.Ref.{now}
 use Rattle.rules.specs.Limits.{rowWords, mostRows}
-use Rattle.job.specs.Limits.{tableWords, firstInput}
+use Rattle.job.specs.Limits.{tableWords}
+use Rattle.job.specs.Jobs.{firstInput, inputsOf}
 use Rattle.lines.specs.Lines.{rowsKey}
 use Rattle.job.specs.Read.{lineSaid, linesSaid, reading}
 use Rattle.lines.proofs.LineLaws.{line-within}
@@ -14,6 +15,9 @@ use native.Mathlib.Omega.{arith}
 use borrow.Author.Needs.{needs}
 use Rattle.job.proofs.read_table.Statement.{statement}
 use Rattle.job.proofs.read_table.Tie as tie
+
+array-read-inputs : tie.Need-array-read-inputs
+array-read-inputs c = search needs
 
 slice-aggregate-read-line : tie.Need-slice-aggregate-read-line
 slice-aggregate-read-line c = search needs
@@ -92,8 +96,17 @@ returns c =
     let words = at-fill-rows .fill-rows .last .1 .1 .1 .1 .0 in
     c .refused3 .ensures
     ∙ ap reading
-    (table-further (args .budget) (args .room) (args .marks) (firstInput + args .inputs) (take (args .inputs) (args .memory .words)) (drop (args .at) text) (count .0 .0) (6 + args .inputs) (drop (count .0 .1 .0) text) (ap (lineSaid text) (sym (at-count2 .count2 .given .1)) ∙ at-read-line .read-line .ensures) (omega arith) (take (rowWords * (count .0 .0)) words) text (end .0 .0)
+    (table-further (firstInput + inputsOf (args .t3)) (args .t3) (take (inputsOf (args .t3)) (args .memory .words)) (drop (args .at) text) (count .0 .0) (6 + inputsOf (args .t3)) (drop (count .0 .1 .0) text) (ap (lineSaid text) (sym (at-count2 .count2 .given .1)) ∙ at-read-line .read-line .ensures) (omega arith) (take (rowWords * (count .0 .0)) words) text (end .0 .0)
     (ap (linesSaid text (rowWords * (count .0 .0)) words) (sym (end .1)) ∙ at-fill-rows .fill-rows .ensures .said) (at-if1 .if1 .taken))
+
+array-read-t34 : tie.Need-array-read-t34
+array-read-t34 c = search needs
+
+array-read-t37 : tie.Need-array-read-t37
+array-read-t37 c = search needs
+
+array-read-t40 : tie.Need-array-read-t40
+array-read-t40 c = search needs
 
 returns-2 : tie.Need-returns-2
 returns-2 c =
@@ -103,7 +116,7 @@ returns-2 c =
     let args = start .args in
     let text = now (args .text) in
     c .refused .ensures
-    ∙ ap reading (table-uncounted (args .budget) (args .room) (args .marks) (firstInput + args .inputs) (take (args .inputs) (args .memory .words)) (drop (args .at) text) (at-count .count .given .0 .0) (ap (lineSaid text) (sym (at-count .count .given .1)) ∙ at-read-line .read-line .ensures))
+    ∙ ap reading (table-uncounted (firstInput + inputsOf (args .t3)) (args .t3) (take (inputsOf (args .t3)) (args .memory .words)) (drop (args .at) text) (at-count .count .given .0 .0) (ap (lineSaid text) (sym (at-count .count .given .1)) ∙ at-read-line .read-line .ensures))
 
 returns-3 : tie.Need-returns-3
 returns-3 c =
@@ -118,7 +131,7 @@ returns-3 c =
     let broken = at-rows .rows .given in
     c .refused2 .ensures
     ∙ ap reading
-    (table-broken (args .budget) (args .room) (args .marks) (firstInput + args .inputs) (take (args .inputs) (args .memory .words)) (drop (args .at) text) (count .0 .0) (6 + args .inputs) (drop (count .0 .1 .0) text) (ap (lineSaid text) (sym (at-count2 .count2 .given .1)) ∙ at-read-line .read-line .ensures) (omega arith) (broken .0 .0) (broken .0 .1 .0)
+    (table-broken (firstInput + inputsOf (args .t3)) (args .t3) (take (inputsOf (args .t3)) (args .memory .words)) (drop (args .at) text) (count .0 .0) (6 + inputsOf (args .t3)) (drop (count .0 .1 .0) text) (ap (lineSaid text) (sym (at-count2 .count2 .given .1)) ∙ at-read-line .read-line .ensures) (omega arith) (broken .0 .0) (broken .0 .1 .0)
     (ap (linesSaid text (rowWords * (count .0 .0)) (at-fill-rows .fill-rows .last .1 .1 .1 .1 .0)) (sym (broken .1)) ∙ at-fill-rows .fill-rows .ensures .said))
 
 returns-4 : tie.Need-returns-4
@@ -136,18 +149,19 @@ returns-4 c =
     let end = at-rows2 .rows2 .given in
     let words = at-fill-rows .fill-rows .last .1 .1 .1 .1 .0 in
     let same = at-fill-rows .fill-rows .ensures .same in
-    reading-told (args .budget) (args .room) (args .marks) (count .0 .0) (args .memory .words) words (take (args .inputs) (args .memory .words))
-    (take (rowWords * (count .0 .0)) words) (start .pre .1)
+    reading-told (args .t3) (args .memory .words) words (take (inputsOf (args .t3)) (args .memory .words))
+    (take (rowWords * (count .0 .0)) words) (count .0 .0) (start .pre .1)
     (filled-front tableWords (rowWords * (count .0 .0)) words (omega (arith, within)) same (at-fill-rows .fill-rows .ensures .kept))
     (rows-counted (count .0 .0) words (omega (arith, within, same)))
     ∙ ap reading
-    (table-told (args .budget) (args .room) (args .marks) (firstInput + args .inputs) (take (args .inputs) (args .memory .words)) (drop (args .at) text) (count .0 .0) (6 + args .inputs) (drop (count .0 .1 .0) text) counted (omega arith) (take (rowWords * (count .0 .0)) words) text (end .0 .0)
+    (table-told (firstInput + inputsOf (args .t3)) (args .t3) (take (inputsOf (args .t3)) (args .memory .words)) (drop (args .at) text) (count .0 .0) (6 + inputsOf (args .t3)) (drop (count .0 .1 .0) text) counted (omega arith) (take (rowWords * (count .0 .0)) words) text (end .0 .0)
     (ap (linesSaid text (rowWords * (count .0 .0)) words) (sym (end .1)) ∙ at-fill-rows .fill-rows .ensures .said) (c .if1 .left))
 
 pub read-table-spec : {M : Type 1} → statement M
 read-table-spec =
     tie.close
     (tie.spec
+    array-read-inputs
     slice-aggregate-read-line
     read-line-requires
     enum-known-count
@@ -163,6 +177,9 @@ read-table-spec =
     add-refused-3
     refused-requires-3
     returns
+    array-read-t34
+    array-read-t37
+    array-read-t40
     returns-2
     returns-3
     returns-4)
