@@ -48,7 +48,13 @@ uint32_t buzorinde_check(const uint32_t *table, size_t table_words, uint32_t mar
 /* Runs the recipe of a table under the monitor, within a budget of steps and the room that the trace has. The first 32
  * words of `memory` are the variables, before the call and after it. The records are the first words of `trace`, and the
  * words after the last record keep their contents. A refused run (1 to 6) has changed neither memory nor trace, and answers
- * 0 steps, 0 records and the marks that it was given. */
+ * 0 steps, 0 records and the marks that it was given.
+ *
+ * The records of channel 0, in order, are what the stations may read. For one table and one mark set, take two memories that are
+ * equal in every variable that is not marked: with any budgets and traces, one run's records of channel 0 begin the other's, and
+ * they are equal where both runs are done. So every such record may be relied on, and nothing follows from one that is missing:
+ * whether it appears may depend on marked variables. So may how long the call takes, whether the run comes to its end, verdict,
+ * row, steps, the number of records, memory, and the marks of a run that is not done. */
 uint32_t buzorinde_run(const uint32_t *table, size_t table_words, uint32_t *memory, size_t memory_words, uint32_t marks,
                        uint32_t budget, uint32_t *trace, size_t trace_words, uint32_t *answer, size_t answer_words);
 
