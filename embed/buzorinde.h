@@ -1,16 +1,38 @@
-/* Recipe runs under watch, for C: the functions of the proved static library (`rt staticlib embed` writes it).
+/* Recipe runs under watch, for C and C++: the functions of the proved static library (`rt staticlib embed` writes it).
  *
  * A slice is a pointer to 32-bit words and how many there are. Every pointer is valid for its words, aligned and not null,
  * even where it has 0 words, and a slice that is written to overlaps no other one of the same call.
  *
  * A call returns a status. Its answer is laid over the first words of the buffer `answer`; the words after it keep their
  * contents. A buffer that is too short is refused by a status, and then nothing at all has changed; where both buffers of a run
- * are too short, the status is the answer's. */
+ * are too short, the status is the answer's.
+ *
+ * Of every function:
+ * - It is reentrant and has no state: calls that lend different buffers may run at the same time, and a table may be lent to
+ *   many calls at once.
+ * - It reads and writes nothing but what it is lent and less than 32 KiB of the caller's stack. It allocates nothing, has no
+ *   globals, makes no system call, and calls nothing outside the library but memcpy and memset.
+ * - It is for x86-64 with the System V calling convention, and a word is an unsigned number in the machine's byte order.
+ * - It comes back: a judge and a check by the table alone, a run within its budget. A call cannot be cancelled, and the time of a
+ *   run grows with the budget: about 100,000,000 steps a second on a small virtual machine, fewer where expressions are tall, so
+ *   that the largest budget may take minutes. The caller chooses the budget. */
 #ifndef BUZORINDE_H
 #define BUZORINDE_H
 
 #include <stddef.h>
 #include <stdint.h>
+
+/* The version of this header: a number changes whenever something here changes its meaning. */
+#define BUZORINDE_VERSION_MAJOR 0
+#define BUZORINDE_VERSION_MINOR 1
+#define BUZORINDE_VERSION_PATCH 0
+
+/* The version as one number that grows, to be compared. */
+#define BUZORINDE_VERSION (BUZORINDE_VERSION_MAJOR * 10000 + BUZORINDE_VERSION_MINOR * 100 + BUZORINDE_VERSION_PATCH)
+
+#ifdef __cplusplus
+extern "C" {
+#endif
 
 /* What a call returns. */
 enum {
@@ -27,15 +49,81 @@ enum {
     BUZORINDE_RUN_WORDS = 6
 };
 
+/* The limits. What is beyond them is refused; any memory, mark set and budget is allowed. */
+enum {
+    BUZORINDE_ROW_WORDS = 4,           /* a row of a table: kind, p, q, r */
+    BUZORINDE_MOST_ROWS = 512,         /* a table has 1 row at least and this many at most */
+    BUZORINDE_MOST_HEIGHT = 16,        /* of an expression */
+    BUZORINDE_MOST_NESTING = 8,        /* of ifs and whiles */
+    BUZORINDE_MOST_LOOP_NESTING = 3,   /* of whiles */
+    BUZORINDE_RECORD_WORDS = 2,        /* a record of a trace: channel, value */
+    BUZORINDE_MOST_TRACE_WORDS = 16384 /* that may be lent; of an odd number of words, the last one is never written */
+};
+
 /* The places of an answer's words. The first three are those of every answer. */
 enum {
     BUZORINDE_REFUSAL = 0, /* the number of the refusal, or 0 */
-    BUZORINDE_VERDICT = 1, /* of a run: 0 done, 1 stopped, 2 budget used up, 3 no room; of a check: 0 pass, 1 fail; else 0 */
+    BUZORINDE_VERDICT = 1, /* of a run from BUZORINDE_DONE on, of a check BUZORINDE_PASS or BUZORINDE_FAIL; else 0 */
     BUZORINDE_ROW = 2,     /* the refusal's row; of a run that was not refused its place, of a check that fails its row; else 0 */
     BUZORINDE_CHECK_MARKS = 3, /* of a check: the final mark set */
     BUZORINDE_STEPS = 3,   /* of a run: the steps taken */
     BUZORINDE_RECORDS = 4, /* of a run: how many records the trace begins with, two words each: channel, value */
     BUZORINDE_MARKS = 5    /* of a run: the mark set reached; bit i set means that variable i is provisional */
+};
+
+/* The verdicts of a run, and the place that BUZORINDE_ROW has with them. */
+enum {
+    BUZORINDE_DONE = 0,    /* the run has finished; 0 */
+    BUZORINDE_STOPPED = 1, /* the next step is an output on the settled channel of something provisional; the output's row */
+    BUZORINDE_SPENT = 2,   /* the run has not finished, and its budget is used up; 0 */
+    BUZORINDE_NO_ROOM = 3  /* the next step is an output, and the trace has no room for its record; the output's row */
+};
+
+/* The verdicts of a level check. */
+enum {
+    BUZORINDE_PASS = 0, /* no run from these marks is stopped */
+    BUZORINDE_FAIL = 1  /* some output on the settled channel may be provisional; BUZORINDE_ROW is the lowest such row */
+};
+
+/* The refusals. The lowest that applies anywhere is given, with its lowest row. */
+enum {
+    BUZORINDE_REFUSED_COUNT = 1, /* the table's words are not a multiple of 4, or it has 0 rows or over 512; row 0 */
+    BUZORINDE_REFUSED_WORD = 2,  /* unknown kind; variable over 31, channel over 1, operator over 5; unnamed word not 0; the row */
+    BUZORINDE_REFUSED_CHILD = 3, /* a child's number not below its parent's, or a child of the wrong sort; the parent's row */
+    BUZORINDE_REFUSED_TREE = 4,  /* a row before the last is a child of no row or in more than one place, or the last row is an
+                                    expression; the row */
+    BUZORINDE_REFUSED_DEPTH = 5, /* expression height over 16, nesting over 8 or loop nesting over 3; the row */
+    BUZORINDE_REFUSED_TRACE = 6  /* of a run alone: the trace that is lent has over 16,384 words; row 0 */
+};
+
+/* The channels of outputs and records. */
+enum {
+    BUZORINDE_SETTLED = 0,
+    BUZORINDE_PROVISIONAL = 1
+};
+
+/* The kinds of rows with their words p, q and r; words that are not named are 0. The rows are a tree, children first; the last
+ * row is the whole recipe. */
+enum {
+    BUZORINDE_SKIP = 0,
+    BUZORINDE_ASSIGN = 1,   /* variable, expression */
+    BUZORINDE_SEQUENCE = 2, /* first statement, second statement */
+    BUZORINDE_IF = 3,       /* expression, then, else */
+    BUZORINDE_WHILE = 4,    /* expression, body */
+    BUZORINDE_OUTPUT = 5,   /* channel, expression */
+    BUZORINDE_CONSTANT = 8, /* value */
+    BUZORINDE_VARIABLE = 9, /* variable */
+    BUZORINDE_BINARY = 10   /* operator, left expression, right expression */
+};
+
+/* The operators of a binary row. */
+enum {
+    BUZORINDE_SUM = 0,        /* modulo 2^32, as are difference and product */
+    BUZORINDE_DIFFERENCE = 1,
+    BUZORINDE_PRODUCT = 2,
+    BUZORINDE_QUOTIENT = 3,   /* whole, and 0 where the divisor is 0 */
+    BUZORINDE_EQUAL = 4,      /* 1 or 0 */
+    BUZORINDE_LESS = 5        /* 1 or 0 */
 };
 
 /* Judges a table: accepted, or the lowest refusal from 1 to 5 that applies anywhere, with its lowest row. */
@@ -57,5 +145,52 @@ uint32_t buzorinde_check(const uint32_t *table, size_t table_words, uint32_t mar
  * row, steps, the number of records, memory, and the marks of a run that is not done. */
 uint32_t buzorinde_run(const uint32_t *table, size_t table_words, uint32_t *memory, size_t memory_words, uint32_t marks,
                        uint32_t budget, uint32_t *trace, size_t trace_words, uint32_t *answer, size_t answer_words);
+
+/* What a status means. */
+static inline const char *buzorinde_status_text(uint32_t status) {
+    switch (status) {
+    case BUZORINDE_ANSWERED: return "the call has answered";
+    case BUZORINDE_ANSWER_TOO_SHORT: return "the answer's buffer has fewer words than the answer takes";
+    case BUZORINDE_MEMORY_TOO_SHORT: return "the memory has fewer than 32 words";
+    default: return "no status has this number";
+    }
+}
+
+/* What the verdict of a run means. */
+static inline const char *buzorinde_verdict_text(uint32_t verdict) {
+    switch (verdict) {
+    case BUZORINDE_DONE: return "the run has finished";
+    case BUZORINDE_STOPPED: return "the monitor stopped the run before it told the settled channel something provisional";
+    case BUZORINDE_SPENT: return "the budget was used up before the run had finished";
+    case BUZORINDE_NO_ROOM: return "the trace has no room for the next record";
+    default: return "no verdict of a run has this number";
+    }
+}
+
+/* What the verdict of a level check means. */
+static inline const char *buzorinde_check_text(uint32_t verdict) {
+    switch (verdict) {
+    case BUZORINDE_PASS: return "no output on the settled channel can be provisional";
+    case BUZORINDE_FAIL: return "an output on the settled channel may be provisional";
+    default: return "no verdict of a level check has this number";
+    }
+}
+
+/* What a refusal means. 0 is not the number of one. */
+static inline const char *buzorinde_refusal_text(uint32_t refusal) {
+    switch (refusal) {
+    case BUZORINDE_REFUSED_COUNT: return "the table's words are not a multiple of 4, or it has 0 rows or more than 512";
+    case BUZORINDE_REFUSED_WORD: return "the row's kind is unknown, a word is out of range, or a word that must be 0 is not";
+    case BUZORINDE_REFUSED_CHILD: return "a child's number is not below the row's, or the child is of the wrong sort";
+    case BUZORINDE_REFUSED_TREE: return "the row is a child of no row or in more than one place, or it is the last and an expression";
+    case BUZORINDE_REFUSED_DEPTH: return "the expression is higher than 16, or statements nest deeper than 8 or loops than 3";
+    case BUZORINDE_REFUSED_TRACE: return "the trace that is lent has more than 16,384 words";
+    default: return "no refusal has this number";
+    }
+}
+
+#ifdef __cplusplus
+}
+#endif
 
 #endif

@@ -1,0 +1,48 @@
+// Runs B and I of document 01, and the whole case with a trace of an odd number of words, from C++.
+#include "buzorinde.h"
+#include <array>
+#include <iostream>
+#include <vector>
+
+static_assert(BUZORINDE_VERSION == 100, "this program is for version 0.1.0");
+
+using Answer = std::array<uint32_t, BUZORINDE_RUN_WORDS>;
+
+// Runs a table with v0 = 7 and v1 = 9 within 100 steps, and prints how it ended and the trace that it leaves.
+static void run_and_print(const std::vector<uint32_t> &table, uint32_t marks, std::vector<uint32_t> trace) {
+    std::array<uint32_t, BUZORINDE_VARIABLES> memory = {{7, 9}};
+    Answer answer = Answer();
+    uint32_t status = buzorinde_run(table.data(), table.size(), memory.data(), memory.size(), marks, 100, trace.data(),
+                                    trace.size(), answer.data(), answer.size());
+    std::cout << buzorinde_status_text(status) << '\n';
+    if (answer[BUZORINDE_REFUSAL] != 0)
+        std::cout << buzorinde_refusal_text(answer[BUZORINDE_REFUSAL]);
+    else
+        std::cout << buzorinde_verdict_text(answer[BUZORINDE_VERDICT]);
+    std::cout << ": row " << answer[BUZORINDE_ROW] << ", steps " << answer[BUZORINDE_STEPS] << ", records "
+              << answer[BUZORINDE_RECORDS] << "\ntrace";
+    for (uint32_t word : trace)
+        std::cout << ' ' << word;
+    std::cout << '\n';
+}
+
+int main() {
+    const std::vector<uint32_t> b = {
+        BUZORINDE_VARIABLE, 0, 0, 0,
+        BUZORINDE_VARIABLE, 0, 0, 0,
+        BUZORINDE_BINARY, BUZORINDE_DIFFERENCE, 0, 1,
+        BUZORINDE_OUTPUT, BUZORINDE_SETTLED, 2, 0};
+    const std::vector<uint32_t> i = {
+        BUZORINDE_CONSTANT, 5, 0, 0,
+        BUZORINDE_OUTPUT, BUZORINDE_SETTLED, 0, 0};
+    const std::vector<uint32_t> whole = {
+        BUZORINDE_VARIABLE, 0, 0, 0,
+        BUZORINDE_OUTPUT, BUZORINDE_SETTLED, 0, 0,
+        BUZORINDE_VARIABLE, 1, 0, 0,
+        BUZORINDE_OUTPUT, BUZORINDE_PROVISIONAL, 2, 0,
+        BUZORINDE_SEQUENCE, 1, 3, 0};
+    run_and_print(b, 1, {3, 3});
+    run_and_print(i, 1, {3});
+    run_and_print(whole, 2, {3, 3, 3, 3, 3});
+    run_and_print(whole, 2, {3, 3, 3});
+}
