@@ -1,7 +1,13 @@
 //! Recipe runs under watch: safe functions over the proved static library.
 //!
 //! Each function here lends buffers of the length that the library asks for, so that no call is refused for a short one, and
-//! turns the answer's words into the enum that they stand for.
+//! turns the answer's words into the enum that they stand for. What the header `buzorinde.h` says of every function of the library
+//! is true of these too.
+
+mod numbers;
+
+pub use numbers::{CheckVerdict, Refusal, Status, Verdict};
+use std::fmt;
 
 /// The functions for C as they are, for callers that lend buffers of any length.
 pub mod library {
@@ -44,6 +50,18 @@ pub const JUDGE_WORDS: usize = 3;
 pub const CHECK_WORDS: usize = 4;
 pub const RUN_WORDS: usize = 6;
 
+/// How many words a row of a table and a record of a trace take.
+pub const ROW_WORDS: usize = 4;
+pub const RECORD_WORDS: usize = 2;
+
+/// The most rows of a table, and the most words of a trace that may be lent. Of an odd number of words the last is never written.
+pub const MOST_ROWS: usize = 512;
+pub const MOST_TRACE_WORDS: usize = 16384;
+
+/// The channels of outputs and records.
+pub const SETTLED: u32 = 0;
+pub const PROVISIONAL: u32 = 1;
+
 /// What the judge says of a table.
 #[derive(Clone, Copy, Debug, PartialEq, Eq)]
 pub enum Judged {
@@ -84,6 +102,116 @@ pub struct Answer {
     pub steps: u32,
     pub records: u32,
     pub marks: u32,
+}
+
+/// A record of a trace.
+#[derive(Clone, Copy, Debug, PartialEq, Eq)]
+pub struct Record {
+    pub channel: u32,
+    pub value: u32,
+}
+
+impl Answer {
+    /// The records that the run has left in the trace that it was lent.
+    pub fn records_in<'a>(&self, trace: &'a [u32]) -> impl ExactSizeIterator<Item = Record> + 'a {
+        trace
+            .chunks_exact(RECORD_WORDS)
+            .take(self.records as usize)
+            .map(|words| Record {
+                channel: words[0],
+                value: words[1],
+            })
+    }
+}
+
+impl Judged {
+    /// Why the table was refused, if it was.
+    pub fn refusal(self) -> Option<Refusal> {
+        match self {
+            Judged::Refused { number, .. } => Refusal::from_number(number),
+            Judged::Accepted => None,
+        }
+    }
+}
+
+impl Checked {
+    /// Why the check was refused, if it was.
+    pub fn refusal(self) -> Option<Refusal> {
+        match self {
+            Checked::Refused { number, .. } => Refusal::from_number(number),
+            Checked::Pass | Checked::Fail(_) => None,
+        }
+    }
+
+    /// The verdict, unless the check was refused.
+    pub fn verdict(self) -> Option<CheckVerdict> {
+        match self {
+            Checked::Pass => Some(CheckVerdict::Pass),
+            Checked::Fail(_) => Some(CheckVerdict::Fail),
+            Checked::Refused { .. } => None,
+        }
+    }
+}
+
+impl Ended {
+    /// Why the run was refused, if it was.
+    pub fn refusal(self) -> Option<Refusal> {
+        match self {
+            Ended::Refused { number, .. } => Refusal::from_number(number),
+            _ => None,
+        }
+    }
+
+    /// The verdict, unless the run was refused.
+    pub fn verdict(self) -> Option<Verdict> {
+        match self {
+            Ended::Done => Some(Verdict::Done),
+            Ended::Stopped(_) => Some(Verdict::Stopped),
+            Ended::Spent => Some(Verdict::Spent),
+            Ended::NoRoom(_) => Some(Verdict::NoRoom),
+            Ended::Refused { .. } => None,
+        }
+    }
+}
+
+/// Writes a refusal: its number, its row and its sentence.
+fn write_refused(f: &mut fmt::Formatter<'_>, number: u32, row: u32) -> fmt::Result {
+    write!(f, "refused {number} at row {row}")?;
+    match Refusal::from_number(number) {
+        Some(refusal) => write!(f, ": {refusal}"),
+        None => Ok(()),
+    }
+}
+
+impl fmt::Display for Judged {
+    fn fmt(&self, f: &mut fmt::Formatter<'_>) -> fmt::Result {
+        match *self {
+            Judged::Accepted => f.write_str("accepted"),
+            Judged::Refused { number, row } => write_refused(f, number, row),
+        }
+    }
+}
+
+impl fmt::Display for Checked {
+    fn fmt(&self, f: &mut fmt::Formatter<'_>) -> fmt::Result {
+        match *self {
+            Checked::Pass => write!(f, "pass: {}", CheckVerdict::Pass),
+            Checked::Fail(row) => write!(f, "fail at row {row}: {}", CheckVerdict::Fail),
+            Checked::Refused { number, row } => write_refused(f, number, row),
+        }
+    }
+}
+
+impl fmt::Display for Ended {
+    fn fmt(&self, f: &mut fmt::Formatter<'_>) -> fmt::Result {
+        match *self {
+            Ended::Done => write!(f, "done: {}", Verdict::Done),
+            Ended::Stopped(row) => write!(f, "stopped at row {row}: {}", Verdict::Stopped),
+            Ended::Spent => write!(f, "spent: {}", Verdict::Spent),
+            Ended::NoRoom(row) => write!(f, "no room at row {row}: {}", Verdict::NoRoom),
+            Ended::Refused { number, row } => write_refused(f, number, row),
+        }
+    }
 }
 
 /// Judges a table: accepted, or the lowest refusal from 1 to 5 that applies anywhere, with its lowest row.

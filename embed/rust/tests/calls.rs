@@ -1,6 +1,9 @@
 //! The safe functions on cases that document 01 states.
 
-use buzorinde::{check, judge, run, Advice, Answer, Checked, Ended, Judged, VARIABLES};
+use buzorinde::{
+    check, judge, run, Advice, Answer, Checked, Ended, Judged, Record, PROVISIONAL, SETTLED,
+    VARIABLES,
+};
 
 /// The whole case of document 01: v0 out on channel 0, then v1 out on channel 1.
 const WHOLE: [u32; 20] = [9, 0, 0, 0, 5, 0, 0, 0, 9, 1, 0, 0, 5, 1, 2, 0, 2, 1, 3, 0];
@@ -30,6 +33,20 @@ fn the_whole_case() {
     );
     assert_eq!(words, memory(&[7, 9]));
     assert_eq!(trace, [0, 7, 1, 9, 5, 5]);
+}
+
+#[test]
+fn the_records_of_a_trace() {
+    // a trace of 5 words has room for both records, and one of 3 words for the first
+    let records = |words: usize| -> Vec<Record> {
+        let mut trace = vec![5; words];
+        let answer = run(&WHOLE, &mut memory(&[7, 9]), 2, 10, &mut trace);
+        answer.records_in(&trace).collect()
+    };
+    let record = |channel, value| Record { channel, value };
+    assert_eq!(records(5), [record(SETTLED, 7), record(PROVISIONAL, 9)]);
+    assert_eq!(records(3), [record(SETTLED, 7)]);
+    assert_eq!(records(1), []);
 }
 
 #[test]
