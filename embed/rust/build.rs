@@ -3,18 +3,24 @@
 
 use std::env;
 use std::path::{Path, PathBuf};
+use std::process::exit;
 
 fn main() {
     let here = env::var("CARGO_MANIFEST_DIR").expect("cargo sets the folder of the crate");
-    let folder = env::var_os("BUZORINDE_LIBRARY").map_or_else(
-        || Path::new(&here).join("../../target/staticlib"),
-        PathBuf::from,
-    );
+    let root = Path::new(&here).join("../..");
+    let folder = env::var_os("BUZORINDE_LIBRARY")
+        .map_or_else(|| root.join("target/staticlib"), PathBuf::from);
+    let library = folder.join("libembed.a");
+    println!("cargo:rerun-if-env-changed=BUZORINDE_LIBRARY");
+    println!("cargo:rerun-if-changed={}", library.display());
+    if !library.is_file() {
+        eprintln!("There is no {}.", library.display());
+        eprintln!(
+            "Run `rt staticlib embed` in {}, or let BUZORINDE_LIBRARY name a folder that has libembed.a.",
+            root.display()
+        );
+        exit(1);
+    }
     println!("cargo:rustc-link-search=native={}", folder.display());
     println!("cargo:rustc-link-lib=static=embed");
-    println!("cargo:rerun-if-env-changed=BUZORINDE_LIBRARY");
-    println!(
-        "cargo:rerun-if-changed={}",
-        folder.join("libembed.a").display()
-    );
 }
