@@ -13,9 +13,9 @@
  * - It reads and writes nothing but what it is lent and less than 32 KiB of the caller's stack. It allocates nothing, has no
  *   globals, makes no system call, and calls nothing outside the library but memcpy and memset.
  * - It is for x86-64 with the System V calling convention, and a word is an unsigned number in the machine's byte order.
- * - It comes back: a judge and a check by the table alone, a run within its budget. A call cannot be cancelled, and the time of a
- *   run grows with the budget: about 100,000,000 steps a second on a small virtual machine, fewer where expressions are tall, so
- *   that the largest budget may take minutes. The caller chooses the budget. */
+ * - It always returns, and cannot be cancelled before it does. A run takes at most as many steps as its budget: on a small virtual
+ *   machine about 100,000,000 a second where expressions are small, and about 1,000,000 a second where expressions have hundreds of
+ *   rows. The largest budget is then about a minute or about an hour; the caller chooses the budget. */
 #ifndef BUZORINDE_H
 #define BUZORINDE_H
 

@@ -16,4 +16,5 @@ int main(void) {
     printf("status=%u verdict=%u row=%u marks=%u\n", status, answer[BUZORINDE_VERDICT], answer[BUZORINDE_ROW], answer[BUZORINDE_CHECK_MARKS]);
     printf("status=%u\n", buzorinde_judge(table, 20, answer, 2));
     printf("status=%u\n", buzorinde_run(table, 20, memory, 31, 2, 10, trace, 4, answer, BUZORINDE_RUN_WORDS));
+    printf("status=%u\n", buzorinde_run(table, 20, memory, 31, 2, 10, trace, 4, answer, 5));
 }

@@ -37,14 +37,14 @@ fn the_whole_case() {
 
 #[test]
 fn the_records_of_a_trace() {
-    // a trace of 5 words has room for both records, and one of 3 words for the first
+    // a trace of 7 words has room for more than both records, and one of 3 words for the first
     let records = |words: usize| -> Vec<Record> {
         let mut trace = vec![5; words];
         let answer = run(&WHOLE, &mut memory(&[7, 9]), 2, 10, &mut trace);
         answer.records_in(&trace).collect()
     };
     let record = |channel, value| Record { channel, value };
-    assert_eq!(records(5), [record(SETTLED, 7), record(PROVISIONAL, 9)]);
+    assert_eq!(records(7), [record(SETTLED, 7), record(PROVISIONAL, 9)]);
     assert_eq!(records(3), [record(SETTLED, 7)]);
     assert_eq!(records(1), []);
 }
