@@ -317,6 +317,7 @@ fn write_row(table: &[u32], row: u32) {
     write_number(here.r);
 }
 
+// 1 for true, 0 for false.
 fn number_of(answer: bool) -> u32 {
     if answer {
         return 1;

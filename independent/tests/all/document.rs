@@ -138,6 +138,13 @@ fn j() {
     assert_eq!((value(4, 3, 3), value(4, 3, 4)), (Some(1), Some(0)));
     assert_eq!((value(5, 3, 4), value(5, 4, 3)), (Some(1), Some(0)));
     assert_eq!((value(5, 3, 3), value(6, 3, 3)), (Some(0), None));
+    // "32-bit unsigned": no number is below 0, and every bit counts.
+    assert_eq!(value(3, 4294967295, 2), Some(2147483647));
+    assert_eq!(value(5, 2147483647, 2147483648), Some(1));
+    assert_eq!(
+        (value(4, 65536, 0), value(4, 65536, 65536)),
+        (Some(0), Some(1))
+    );
 }
 
 fn refused(part: &Part) -> Option<u32> {

@@ -72,6 +72,20 @@ fn case() {
 }
 
 #[test]
+fn case_of_rows() {
+    let memory = format!("mem=7{}", ",0".repeat(31));
+    let asked = format!("{memory}\nlevels=1\nasked=2\nrows=0,1\n");
+    let accepted = format!("ask=rows\ncount=8\nwords=9,0,0,0,1,3,0,0\n{asked}");
+    let variable = "has=1\nrow=9,0,0,0\nvalue=7\nlevel=1\nassigned=0\n";
+    let assignment = "has=1\nrow=1,3,0,0\nvalue=0\nlevel=0\nassigned=8\n";
+    answers(&["--case"], &accepted, &(variable.to_string() + assignment));
+    let unknown = format!("ask=rows\ncount=4\nwords=6,1,2,3\n{asked}");
+    let refused = "refused=2\nat=0\nrefused=2\nat=0\n";
+    let told = format!("has=1\nrow=11,1,2,3\n{refused}has=0\nrow=11,0,0,0\n{refused}");
+    answers(&["--case"], &unknown, &told);
+}
+
+#[test]
 fn misused() {
     for arguments in [
         &["--unknown"][..],
