@@ -4,7 +4,7 @@ use native.Mathlib.Omega.{arith}
 use mathlib.Core.Bool.{Bool, true, false, cond, not, _||_, _&&_}
 use mathlib.Core.List.{List, [], _∷_}
 use mathlib.Core.Logic.{_≢_}
-use mathlib.Core.Path.{_≡_, refl, sym, ap, _∙_, subst}
+use mathlib.Core.Path.{_≡_, refl, sym, ap, _∙_, subst, subst₂}
 use lib.Dec.{eqb}
 use borrow.Author.Tests.{eqb-true, eqb-false}
 use types.Run.{OneOf, miss}
@@ -14,13 +14,14 @@ use lib.Seq.{getD-set-same, getD-set-other}
 use Rattle.rules.specs.declared.Kind.{Kind}
 use Rattle.rules.specs.declared.Row.{Row}
 use Rattle.rules.specs.Limits.{width, mostNesting}
-use Rattle.rules.specs.Marks.{none, put, union, provisional}
+use Rattle.rules.specs.Marks.{put, union, provisional}
 use Rattle.rules.specs.Answers.{termsOf}
 use Rattle.rules.specs.Rows.{isStatement, rowAt}
 use Rattle.rules.specs.Trees.{Expr, Stmt, if, while, output, stmtAt, exprAt, nesting}
 use Rattle.rules.specs.Values.{value, holds, level, mayAssign}
 use Rattle.rules.specs.Running.{Item, statement, close, state, context, Attempt, denied, roomless}
 use Rattle.rules.specs.Bounds.{need, mostPending, Bounds}
+use Rattle.rules.proofs.MarkLaws.{none-zero}
 use Rattle.rules.proofs.BoundLaws.{need-pos, few-closes, few-pending}
 use Rattle.rules.proofs.StatementLaws.{Below, is-skip, is-assign, is-if, is-while, is-output}
 use Rattle.step.specs.declared.Held.{Held}
@@ -143,9 +144,9 @@ module _ (rows : List Row) (w e p t : List ℕ) (h : Held) (at : Holds rows (arr
       by : (b : Bool) → holds w (exprAt rows (row .p)) ≡ b → Goes rows (arrays w e p t) h (arrays w e′ p′ t) h′
       by true hold =
           turn-law rows w e p t h at n top (exprAt rows (row .p)) _ some stands hold e′ p′ h′
-          (subst
-          (λ (k : List Item). Opened rows p h (statement (stmtAt rows (row .q)) ∷ close ∷ k) (level (h .marks) (exprAt rows (row .p))) none e′ p′ h′)
-          items (looped .turns hold))
+          (subst₂
+          (λ (k : List Item) (c : ℕ). Opened rows p h (statement (stmtAt rows (row .q)) ∷ close ∷ k) (level (h .marks) (exprAt rows (row .p))) c e′ p′ h′)
+          items (sym none-zero) (looped .turns hold))
       by false hold = leave-law rows w e p t h at n top (exprAt rows (row .p)) _ some stands hold e′ p′ h′ (looped .leaves hold)
 
   -- ---- output

@@ -8,7 +8,7 @@ use lib.ListN.{length, getD, set}
 use Rattle.rules.specs.Limits.{width, mostNesting}
 use Rattle.rules.specs.declared.Row.{Row}
 use Rattle.rules.specs.declared.Kind.{Kind}
-use Rattle.rules.specs.Marks.{none, put, union, provisional}
+use Rattle.rules.specs.Marks.{put, union, provisional}
 use Rattle.rules.specs.Rows.{rowAt}
 use Rattle.rules.specs.Trees.{Expr, stmtAt, exprAt}
 use Rattle.rules.specs.Values.{value, holds, level, mayAssign}
@@ -134,9 +134,9 @@ module _ (rows : List Row) (e p : List ℕ) (h : Held) where
   abbrev pub BranchOpened : ℕ → ℕ → ℕ → List ℕ → List ℕ → Held → Type 0
   BranchOpened level chosen other = Opened rows p h (statement (stmtAt rows chosen) ∷ close ∷ below) level (mayAssign (stmtAt rows other))
 
-  -- "body, close, then the same while", with the empty set
+  -- "body, close, then the same while", with the empty set, the number 0
   abbrev pub LoopTurned : ℕ → ℕ → List ℕ → List ℕ → Held → Type 0
-  LoopTurned level body = Opened rows p h (statement (stmtAt rows body) ∷ close ∷ itemsOf rows e (h .pending)) level none
+  LoopTurned level body = Opened rows p h (statement (stmtAt rows body) ∷ close ∷ itemsOf rows e (h .pending)) level 0
 
   -- "test fails: a close", with the set of the body
   abbrev pub LoopLeft : ℕ → ℕ → List ℕ → List ℕ → Held → Type 0

@@ -18,7 +18,6 @@ ghost use Prim.Native.Nat.{_<_, _≤_};
 ghost use lib.ListN.{length};
 ghost use Rattle.rules.specs.declared.Kind.{Kind};
 ghost use Rattle.rules.specs.Limits.{mostNesting};
-ghost use Rattle.rules.specs.Marks.{none};
 ghost use Rattle.rules.specs.Rows.{rowsOf};
 ghost use Rattle.rules.specs.Trees.{exprAt, stmtAt};
 ghost use Rattle.rules.specs.Values.{mayAssign};
@@ -78,7 +77,7 @@ fn is_denied(channel: u32, level: Marks, height: usize) -> bool
 // Pushes the empty set if the test or the context is provisional, and answers the pile's height.
 fn push_none(pile: &mut [Marks; SETS], height: usize, level: Marks) -> usize
     requires { ⌜ (length (now pile) ≡ mostNesting) × (height < mostNesting) ⌝ }
-    ensures { λ r. ⌜ Pushed (now (pile .entry)) height level none (now (pile .exit)) r ⌝ }
+    ensures { λ r. ⌜ Pushed (now (pile .entry)) height level 0 (now (pile .exit)) r ⌝ }
 {
     if is_guarded(level, height) {
         pile[height] = 0;

@@ -1,9 +1,5 @@
 -- `step::push_none` meets its contract.
-use mathlib.Core.Path.{sym, subst, _∙_}
-use Prim.Native.Nat.{ℕ, _+_}
-use lib.ListN.{set}
-use Rattle.step.specs.Turns.{Pushed}
-use Rattle.rules.proofs.MarkLaws.{none-zero}
+use mathlib.Core.Path.{sym, _∙_}
 use Rattle.step.proofs.ArrayLaws.{pushed-law, unpushed-law}
 use borrow.Author.Needs.{needs}
 use Rattle.step.proofs.push_none.Statement.{statement}
@@ -25,8 +21,7 @@ returns : tie.Need-returns
 returns c =
     let start = c .before .before in
     let a = start .args in
-    subst (λ (x : ℕ). Pushed (a .pile .now) (a .height) (a .level) x (set (a .pile .now) (a .height) 0) (a .height + 1)) (sym none-zero)
-    (pushed-law (a .pile .now) (a .height) (a .level) 0 (start .pre .0) (sym (c .if1 .taken) ∙ c .before .is-guarded .ensures) (start .pre .1))
+    pushed-law (a .pile .now) (a .height) (a .level) _ (start .pre .0) (sym (c .if1 .taken) ∙ c .before .is-guarded .ensures) (start .pre .1)
 
 returns-2 : tie.Need-returns-2
 returns-2 c =
