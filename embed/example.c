@@ -1,4 +1,4 @@
-/* Runs the whole case of document 01: v0 is settled and v1 provisional, and each goes out on its own channel. */
+/* Runs the whole case of docs/RULES.md (12.13): v0 is settled and v1 provisional, and each goes out on its own channel. */
 #include "buzorinde.h"
 #include <stdio.h>
 

@@ -1,4 +1,4 @@
-// Runs B and I of document 01, and the whole case with a trace of an odd number of words, from C++.
+// Runs B and I of docs/RULES.md, and the whole case with a trace of an odd number of words, from C++.
 #include "buzorinde.h"
 #include <array>
 #include <iostream>

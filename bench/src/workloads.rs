@@ -137,7 +137,7 @@ fn sequence(count: u32) -> Vec<u32> {
     r.table()
 }
 
-/// Document 01's whole case: five rows and two steps.
+/// The whole case of docs/RULES.md: five rows and two steps.
 fn short() -> Vec<u32> {
     let mut r = Recipe::default();
     let v0 = r.variable(0);

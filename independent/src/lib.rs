@@ -1,4 +1,4 @@
-//! Recipe runs under watch: a second statement of document 01, by walks over trees.
+//! Recipe runs under watch: a second implementation of the rules, by walks over trees.
 
 pub mod case;
 pub mod job;

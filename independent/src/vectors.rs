@@ -1,5 +1,5 @@
 //! The vectors: inputs made by code, expected outputs answered by this implementation.
-//! The document's limits are written out here, as inputs, and not taken from the code.
+//! The request's limits are written out here, as inputs, and not taken from the code.
 
 mod checks;
 mod document;
@@ -20,7 +20,7 @@ use crate::recipes::{lay, Part};
 use crate::run::RECORD_WORDS;
 use crate::table::ROW_WORDS;
 
-/// The input lines of the whole case, as the document gives them.
+/// The input lines of the whole case, as the request gives them.
 const WHOLE_CASE: [&str; 12] = [
     "budget=10",
     "room=2",

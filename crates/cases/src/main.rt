@@ -32,7 +32,7 @@ const ROWS: u32 = 5;
 
 const MARKS: u32 = 6;
 
-// What is written for the kind of a row that is not there, and for any that the document does not know.
+// What is written for the kind of a row that is not there, and for any that is unknown.
 const UNKNOWN: u32 = 11;
 
 const MOST_BYTES: usize = 262144;

@@ -1,5 +1,5 @@
--- Document 01, "What the contracts have to decide": "For every input, each public function's contract determines the complete
--- answer and the trace afterwards, refusals too; show that no second answer meets it".
+-- 10.10: The contract of each public function decides the whole answer and everything lent, for every input: no second
+-- answer meets it, but for the exceptions that are listed.
 use mathlib.Core.Path.{_≡_}
 use contract.Lifetimes.{Lfts}
 use denote.Exit.{yes}

@@ -1,5 +1,7 @@
--- Document 01: "show that no second answer meets it", for each public function and its contract. `Learnt` is a contract as the
--- checker has it: what the function's `ensures` tells whoever calls it. The exceptions are listed in docs/CONTRACTS.md.
+-- That no second answer meets it, for each public function and its contract. `Learnt` is a contract as the checker has it:
+-- what the function's `ensures` tells whoever calls it. The exceptions are listed in docs/CONTRACTS.md.
+-- 10.10: The contract of each public function decides the whole answer and everything lent, for every input: no second
+-- answer meets it, but for the exceptions that are listed.
 use Rattle.rows.proofs.has_row
 use Rattle.rows.proofs.row_at
 use Rattle.rows.proofs.read_row

@@ -1,4 +1,4 @@
--- Document 01's whole case, and jobs that are refused, proved by evaluating the definitions.
+-- The whole case, and jobs that are refused, proved by evaluating the definitions.
 use mathlib.Core.Path.{refl}
 use Rattle.rules.proofs.Evaluation.{rules}
 use Rattle.job.specs.Read.{filled}

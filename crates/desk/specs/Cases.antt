@@ -1,10 +1,11 @@
--- Document 01's whole case, and jobs that are refused, byte by byte.
+-- The whole case, and jobs that are refused, byte by byte.
 use Prim.Native.Nat.{ℕ}
 use mathlib.Core.List.{List, [], _∷_}
 use mathlib.Core.Path.{_≡_}
 use Rattle.desk.specs.Desk.{jobReport}
 
--- "Whole case. Input lines: .."
+-- 12.13: The job of budget 10, room 2, mark set 2, inputs 7 and 9 and the rows `9,0,0,0`, `5,0,0,0`, `9,1,0,0`, `5,1,2,0`
+-- and `2,1,3,0` ..
 abbrev wholeText : List ℕ
 wholeText =
     -- budget=10
@@ -32,7 +33,8 @@ wholeText =
     -- row=2,1,3,0
     114 ∷ 111 ∷ 119 ∷ 61 ∷ 50 ∷ 44 ∷ 49 ∷ 44 ∷ 51 ∷ 44 ∷ 48 ∷ 10 ∷ []
 
--- "Output:"
+-- 12.13: .. has the report of verdict 0, place 0, 2 steps, mark set 2 with 1 variable marked, the inputs in memory and the
+-- rest 0, and the 2 records `0,7` and `1,9`.
 abbrev wholeReport : List ℕ
 wholeReport =
     -- verdict=0

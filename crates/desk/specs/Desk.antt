@@ -1,5 +1,5 @@
--- Document 01: "a program that reads a job and prints a report". The report of a job's bytes: what the job says is run by the
--- rules, and the answer is reported.
+-- The report of a job's bytes: what the job says is run by the rules, and the answer is reported.
+-- 9.11: What a job says is run, with a trace for as many records as `room=` says; so refusals 1 to 5 come after 7 to 9.
 use Prim.Native.Nat.{ℕ, _*_}
 use mathlib.Core.List.{List}
 use lib.ListN.{replicate}
@@ -15,13 +15,16 @@ use Rattle.report.specs.Written.{mostRun}
 abbrev pub mostReport : ℕ
 mostReport = mostRun mostRoom
 
--- "that many `in=` lines for v0 onward (others 0)"; the trace has the words of as many records as there is room for
+-- The trace has the words of as many records as there is room for.
+-- 9.5: .. the other variables are 0.
+-- 9.11: What a job says is run, with a trace for as many records as `room=` says; ..
 unfoldable pub jobAnswer : Job → Whole
 jobAnswer job =
     answer
     (inputs (job .table) (filled width (job .inputs)) (job .marks) (job .budget) (replicate (recordWords * job .room) 0))
 
--- "Then 1 to 5 apply": the run itself refuses a table, and its report is the refusal's.
+-- The run itself refuses a table, and its report is the refusal's.
+-- 9.11: .. so refusals 1 to 5 come after 7 to 9.
 unfoldable pub toldReport : Told → List ℕ
 toldReport (told job) = report (jobAnswer job)
 toldReport (untold refusal at) = refusalText refusal at

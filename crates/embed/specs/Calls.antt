@@ -1,4 +1,4 @@
--- What a call from C or Rust answers, and what the buffers that it was lent hold afterwards.
+-- Section 11 of the rules: what a call from C or Rust answers, and what the buffers that it was lent hold afterwards.
 use Prim.Native.Nat.{ℕ}
 use mathlib.Core.Bool.{Bool, true, false}
 use mathlib.Core.List.{List, [], _∷_, _++_}
@@ -8,8 +8,8 @@ use Rattle.rules.specs.Limits.{width}
 use Rattle.rules.specs.Answers.{Said, accepted, refused, verdict, pass, fail, Whole, Inputs, inputs, Advised, judgement, advice, answer, traceAfter}
 use Rattle.embed.specs.declared.Numbers.{Numbers}
 
--- The first three words of every answer: the refusal's number or 0; the verdict, which is 1 for a check that fails; the place,
--- or the refusal's row.
+-- 11.2: An answer begins with the refusal's number or 0, the verdict, and the refusal's row or the run's place; a check
+-- that fails has verdict 1 and its failing row.
 abbrev pub numbersOf : Said → Numbers
 numbersOf accepted = record { refusal = 0; verdict = 0; row = 0 }
 numbersOf (refused number row) = record { refusal = number; verdict = 0; row = row }
@@ -20,19 +20,21 @@ numbersOf (fail row) = record { refusal = 0; verdict = 1; row = row }
 abbrev pub saidWords : Numbers → List ℕ
 saidWords n = n .refusal ∷ n .verdict ∷ n .row ∷ []
 
--- The words of a run's answer: what is said of it, steps, records and marks.
+-- 11.3: After these a run's answer has the steps, the number of records and the marks, ..
 abbrev pub runWords : Whole → List ℕ
 runWords w = saidWords (numbersOf (w .said)) ++ w .steps ∷ length (w .records) ∷ w .marks ∷ []
 
--- The words of a check's answer: what is said of it, and marks.
+-- 11.3: .. a check's answer the marks.
 abbrev pub checkWords : Advised → List ℕ
 checkWords a = saidWords (numbersOf (a .said)) ++ a .marks ∷ []
 
--- Words laid over the first words of a buffer; the others keep their old contents.
+-- Words laid over the first words of a buffer.
+-- 11.4: The words of a buffer after those that a call writes keep what they held.
 abbrev pub laid : List ℕ → List ℕ → List ℕ
 laid words buffer = words ++ drop (length words) buffer
 
--- What a call returns: that it has answered, or which buffer was too short.
+-- 11.1: A call returns 0 where it has answered, 1 where the buffer for the answer is too short, and else 2 where the memory
+-- is; it changes nothing that it was lent where it does not return 0.
 abbrev pub answered : ℕ
 answered = 0
 
@@ -78,7 +80,8 @@ pub record RunCall : Type 0 where
   pub trace : List ℕ
   pub answer : List ℕ
 
--- the run is given the first words of the memory that is lent
+-- 11.5: A run is given the first 32 words of the memory that it is lent, and they are the memory that it has reached
+-- afterwards.
 abbrev pub firstWords : Inputs → Inputs
 firstWords i = inputs (i .words) (take width (i .memory)) (i .marks) (i .budget) (i .trace)
 

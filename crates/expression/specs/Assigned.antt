@@ -8,12 +8,12 @@ use Rattle.rules.specs.Values.{mayAssign}
 use Rattle.rules.specs.Judging.{judge}
 use Rattle.expression.specs.declared.assigned.Assigned.{Assigned}
 
--- What document 01 says of a statement in any table: the variables that it may assign; refused, with its number and row.
+-- What the rules say of a statement in any table: the variables that it may assign; refused, with its number and row.
 pub data AssignedSaid : Type 0 where
   variables : ℕ → AssignedSaid
   refused : ℕ → ℕ → AssignedSaid
 
--- "Where the answer is an enum, there is a definition that gives this paper's number and values for each of its cases."
+-- 10.11: Where a function answers with an enum, a definition gives these rules' numbers and values for each of its cases.
 abbrev pub saidOfAssigned : Assigned → AssignedSaid
 saidOfAssigned (Assigned.Variables set) = variables set
 saidOfAssigned (Assigned.Refused number row) = refused number row

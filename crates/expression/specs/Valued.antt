@@ -17,12 +17,12 @@ valuedOf memory marks e = record { value = value memory e; level = level marks e
 abbrev pub valuedIn : ℕ → Valued
 valuedIn word = record { value = word % 2 ^ wordBits; level = word / 2 ^ wordBits }
 
--- What document 01 says of an expression in any table: found, with its value and level; refused, with its number and row.
+-- What the rules say of an expression in any table: found, with its value and level; refused, with its number and row.
 pub data ValueSaid : Type 0 where
   found : ℕ → ℕ → ValueSaid
   refused : ℕ → ℕ → ValueSaid
 
--- "Where the answer is an enum, there is a definition that gives this paper's number and values for each of its cases."
+-- 10.11: Where a function answers with an enum, a definition gives these rules' numbers and values for each of its cases.
 abbrev pub saidOfValue : Evaluation → ValueSaid
 saidOfValue (Evaluation.Found v) = found (v .value) (v .level)
 saidOfValue (Evaluation.Refused number row) = refused number row

@@ -1,4 +1,4 @@
-// What a statement may assign: "every variable that stands on the left of an assignment anywhere in the statement".
+// 3.8: What a statement may assign is the set of the variables of all assigns in it, at any depth.
 use leaves::marks::joined;
 use leaves::marks::only_mark;
 use rows::has_row;

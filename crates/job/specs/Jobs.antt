@@ -1,4 +1,4 @@
--- Document 01, "Job and report": what a job's text reads as, and the text of a job.
+-- Section 9 of the rules: what a job's text reads as, and the text of a job.
 use Prim.Native.Nat.{ℕ, zero, suc, _+_, _-_, _*_, _≤_}
 use mathlib.Core.Bool.{Bool, true, false}
 use mathlib.Core.Path.{_≡_}
@@ -23,7 +23,8 @@ pub data Told : Type 0 where
   told : Job → Told
   untold : ℕ → ℕ → Told
 
--- "then the first faulty line": a line of one number; what follows is read with the number and the text after the line.
+-- A line of one number; what follows is read with the number and the text after the line.
+-- 9.10: .. the first line that is faulty decides, ..
 unfoldable pub one : ℕ → Line → (ℕ → List ℕ → Told) → Told
 one at (line values text) more = more (getD values 0 0) text
 one at (faulty refusal) more = untold refusal at
@@ -32,7 +33,10 @@ unfoldable pub many : Lines → (List ℕ → List ℕ → Told) → Told
 many (lines values text) more = more values text
 many (broken refusal at) more = untold refusal at
 
--- "and then the input ends. A further line .. is 7."
+-- A further line is one too many.
+-- 9.6: .. with these the job ends.
+-- 9.7: Refusal 7, at the line: the line has not the form that belongs there, or lacks its LF, or is missing or one too
+-- many; lines count from 1, and a missing one has the number that it would have.
 unfoldable pub finish : ℕ → Job → List ℕ → Told
 finish at job [] = told job
 finish at job (byte ∷ text) = untold lacksForm at
@@ -42,7 +46,8 @@ pub record Form : Type 0 where
   pub key : List ℕ
   pub most : ℕ
 
--- "in this order: `budget=`, `room=` (records, 0 to 8192), `levels=`, `inputs=` (0 to 32)"
+-- 9.4: First come the lines `budget=`, `room=` with at most 8,192 records, `levels=` with the mark set, and `inputs=` with
+-- at most 32.
 abbrev pub head : List Form
 head =
     record { key = budgetKey; most = mostWord }
@@ -51,11 +56,13 @@ head =
     ∷ record { key = inputsKey; most = mostInputs }
     ∷ []
 
--- the line of the first `in=`; "lines count from 1"
+-- the line of the first `in=`
+-- 9.7: .. lines count from 1, ..
 abbrev pub firstInput : ℕ
 firstInput = length head + 1
 
--- the form of the line of a number: the head's, and after them "`in=` lines for v0 onward"
+-- the form of the line of a number: the head's, and after them that of an input
+-- 9.5: Then come as many lines `in=` as `inputs=` says, ..
 unfoldable pub formAt : ℕ → Form
 formAt at = getD head (at - 1) (record { key = inKey; most = mostWord })
 
@@ -76,18 +83,21 @@ jobOf numbers values words =
 abbrev pub inputsOf : List ℕ → ℕ
 inputsOf numbers = getD numbers 3 0
 
--- "that many `row=k,p,q,r` lines"
+-- 9.3: .. a row's line has three more numbers, each after a comma.
 unfoldable pub rowLine : List ℕ → Line
 rowLine text = lineOf rowKeys mostWord text
 
--- "`rows=` (0 to 512), that many `row=k,p,q,r` lines, and then the input ends."; at is the line of `rows=`
+-- at is the line of `rows=`
+-- 9.6: Then come the line `rows=` with at most 512, and as many lines `row=` with kind, p, q and r; with these the job
+-- ends.
 unfoldable pub readTable : ℕ → List ℕ → List ℕ → List ℕ → Told
 readTable at numbers values text =
     one at (lineOf (rowsKey ∷ []) mostRows text)
     (λ rows afterRows.
     many (linesOf rowLine rows (at + 1) [] afterRows) (λ words end. finish (at + 1 + rows) (jobOf numbers values words) end))
 
--- "that many `in=` lines": the rest of a job after its head
+-- the rest of a job after its head
+-- 9.5: Then come as many lines `in=` as `inputs=` says, the values of v0 and onward; ..
 unfoldable pub readInputs : List ℕ → List ℕ → Told
 readInputs numbers text =
     many (numberLines (inputsOf numbers) firstInput [] text) (readTable (firstInput + inputsOf numbers) numbers)
@@ -96,7 +106,8 @@ readInputs numbers text =
 unfoldable pub readLines : List ℕ → Told
 readLines text = many (numberLines (length head) 1 [] text) readInputs
 
--- "Refusal 9 comes first"; it is given "at 0".
+-- 9.9: Refusal 9, at 0: the job is longer than 32,768 bytes.
+-- 9.10: Refusal 9 comes before 7 and 8; ..
 unfoldable pub sized : Bool → List ℕ → Told
 sized true text = untold tooLong 0
 sized false text = readLines text
@@ -119,7 +130,7 @@ unfoldable pub tableText : ℕ → List ℕ → List ℕ
 tableText zero words = []
 tableText (suc rows) words = lineText rowKeys (take rowWords words) ++ tableText rows (drop rowWords words)
 
--- the lines of a job of so many rows, in the document's order
+-- the lines of a job of so many rows, in the rules' order
 unfoldable pub jobText : ℕ → Job → List ℕ
 jobText rows job =
     numbersText 1 (headOf job)

@@ -1,19 +1,20 @@
--- The numbers of document 01's jobs, each once, under a name.
+-- The numbers of a job, each once, under a name.
 use Prim.Native.Nat.{ℕ, _*_}
 use Rattle.rules.specs.Limits.{width, rowWords, mostRows}
 
--- "`room=` (records, 0 to 8192)"
+-- 9.4: .. `room=` with at most 8,192 records, ..
 abbrev pub mostRoom : ℕ
 mostRoom = 8192
 
--- "`inputs=` (0 to 32)"
+-- 9.4: .. `inputs=` with at most 32.
 abbrev pub mostInputs : ℕ
 mostInputs = width
 
--- the words of "`rows=` (0 to 512)"
+-- the words of the most rows that a job can have
+-- 9.6: Then come the line `rows=` with at most 512, ..
 abbrev pub tableWords : ℕ
 tableWords = rowWords * mostRows
 
--- 9: "the job exceeds 32,768 bytes"
+-- 9.9: Refusal 9, at 0: the job is longer than 32,768 bytes.
 abbrev pub tooLong : ℕ
 tooLong = 9

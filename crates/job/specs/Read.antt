@@ -49,12 +49,13 @@ pub record LinesRead (text : List ℕ) (count : ℕ) (before left : List ℕ) (a
 unfoldable pub filled : ℕ → List ℕ → List ℕ
 filled size values = values ++ replicate (size - length values) 0
 
--- What document 01 says of a text: a job, with its budget, room, mark set and number of rows; refused, with its number and line.
+-- What the rules say of a text: a job, with its budget, room, mark set and number of rows; refused, with its number and
+-- line.
 pub data ReadSaid : Type 0 where
   job : ℕ → ℕ → ℕ → ℕ → ReadSaid
   refused : ℕ → ℕ → ReadSaid
 
--- "Where the answer is an enum, there is a definition that gives this paper's number and values for each of its cases."
+-- 10.11: Where a function answers with an enum, a definition gives these rules' numbers and values for each of its cases.
 abbrev pub saidOfRead : Read → ReadSaid
 saidOfRead (Read.Job budget room marks rows) = job budget room marks rows
 saidOfRead (Read.Refused refusal at) = refused refusal at
@@ -68,7 +69,8 @@ pub record ReadingSaid : Type 0 where
 abbrev pub saidOfReading : Reading → ReadingSaid
 saidOfReading r = record { said = saidOfRead (r .read); memory = r .memory .words; table = r .table }
 
--- "(others 0)" A refused job leaves nothing: every word of memory and table is 0.
+-- A refused job leaves nothing: every word of memory and table is 0.
+-- 9.5: .. the other variables are 0.
 unfoldable pub reading : Told → ReadingSaid
 reading (told j) = record {
   said = job (j .budget) (j .room) (j .marks) (length (j .table) / rowWords);

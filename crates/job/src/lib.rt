@@ -19,7 +19,7 @@ ghost use Rattle.lines.specs.Lines.{afterKey, field, fields, ended, lineOf, lin
 ghost use Rattle.job.specs.Jobs.{untold, firstInput, numberLine, numberLines, inputsOf, rowLine, readTable, readInputs, readJob};
 ghost use Rattle.job.specs.Read.{keySaid, fieldSaid, lineSaid, rowSaid, LinesRead, filled, saidOfReading, reading};
 
-// Document 01's numbers of a job, as `specs/Limits` has them.
+// The numbers of a job, as `specs/Limits` has them.
 pub const MOST_BYTES: usize = 32768;
 
 const MOST_WORD: u64 = WORD_VALUES - 1;

@@ -1,5 +1,6 @@
-// Mark sets: "A mark set is 32 bits; bit i set means that vi is provisional." A variable's number counts modulo 32, so that
-// every number names a variable; the variables of a judged table are below 32.
+// Mark sets. A variable's number counts modulo 32, so that every number names a variable; the variables of a judged table are
+// below 32.
+// 1.3: A mark set is a number of 32 bits: bit i is 1 where vi is marked, that is provisional, and 0 where vi is settled.
 use rules::Marks;
 use rules::VARIABLES;
 ghost use mathlib.Core.Bool.{true, false};

@@ -1,5 +1,7 @@
-// The operators: "0 sum, 1 difference, 2 product (all modulo 2^32), 3 whole quotient, with 0 where the divisor is 0, 4 equal,
-// 5 less (both give 1 or 0)".
+// The operators.
+// 3.2: Sum, difference and product are modulo 2^32.
+// 3.3: The quotient is rounded down, and it is 0 where the divisor is 0.
+// 3.4: Equal and less give 1 where the left side is equal to or less than the right one, and else 0.
 use rules::WORD_VALUES;
 use std::num::wrapping_add_u32;
 use std::num::wrapping_sub_u32;

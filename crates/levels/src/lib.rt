@@ -14,7 +14,8 @@ ghost use Rattle.rules.specs.Answers.{CheckAnswers};
 ghost use Rattle.rules.specs.declared.Checked.{Checked};
 ghost use Rattle.levels.specs.Found.{checkedAt};
 
-// "pass, or fail with the lowest failing row", where that row and 1 is known, or 0 for none.
+// What is said where the lowest failing row and 1 is known, or 0 for none.
+// 8.7: The check passes where no output fails, and else fails at the lowest row that does; ..
 fn checked_at(lowest: u32) -> Checked
     ensures { λ r. ⌜ r ≡ checkedAt lowest ⌝ }
 {

@@ -1,4 +1,4 @@
-// "An expression is provisional when some variable read in it is marked."
+// 3.7: An expression is provisional where its level is not empty, and else it is settled; ..
 use leaves::marks::has_mark;
 use rows::read_row;
 use rules::Kind;

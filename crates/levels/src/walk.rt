@@ -40,7 +40,7 @@ fn lower(a: u32, b: u32) -> u32
     a
 }
 
-// Where an output fails: "if it is on channel 0 and its expression or context is provisional".
+// 8.6: An output .. fails where its channel is 0 and its expression guarded; ..
 fn failing_at(
     table: &&[u32],
     row: u32,

@@ -1,15 +1,16 @@
--- The numbers of document 01 for a line of a job or a report, each once, under a name.
+-- The numbers of the rules for a line of a job or a report, each once, under a name.
 use Prim.Native.Nat.{ℕ}
 
--- "one over 4,294,967,295 is 8"
+-- 9.8: Refusal 8, at the line: a number is over the most that its line allows, which is 4,294,967,295 where nothing else is
+-- said.
 abbrev pub mostWord : ℕ
 mostWord = 4294967295
 
--- 7: "a job line lacks the required form"
+-- 9.7: Refusal 7, at the line: ..
 abbrev pub lacksForm : ℕ
 lacksForm = 7
 
--- 8: "a job number is out of range"
+-- 9.8: Refusal 8, at the line: ..
 abbrev pub outOfRange : ℕ
 outOfRange = 8
 

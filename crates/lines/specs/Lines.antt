@@ -1,4 +1,6 @@
--- Document 01, "Job and report": "Lines end in LF". A line is fields, each a key and a number after it, and then LF.
+-- A line is fields, each a key and a number after it, and then LF.
+-- 9.1: A job is lines of bytes, and every line ends in LF.
+-- 9.3: A line is a key and a number after it; a row's line has three more numbers, each after a comma.
 use Prim.Native.Nat.{ℕ, zero, suc, _+_}
 use mathlib.Core.Bool.{Bool, true, false, _&&_, cond}
 use mathlib.Core.List.{List, [], _∷_, _++_}
@@ -44,7 +46,7 @@ rowsKey = 114 ∷ 111 ∷ 119 ∷ 115 ∷ 61 ∷ []
 abbrev pub rowKey : List ℕ
 rowKey = 114 ∷ 111 ∷ 119 ∷ 61 ∷ []
 
--- "`row=k,p,q,r` lines"
+-- 9.3: .. a row's line has three more numbers, each after a comma.
 abbrev pub rowKeys : List (List ℕ)
 rowKeys = rowKey ∷ comma ∷ comma ∷ comma ∷ []
 
@@ -94,7 +96,8 @@ unfoldable pub inRange : ℕ → List ℕ → Bool
 inRange most [] = true
 inRange most (value ∷ values) = leb value most && inRange most values
 
--- "7 before 8": a line whose form is right is refused by 8 where a number is out of range.
+-- A line whose form is right is refused by 8 where a number is out of range.
+-- 9.10: .. 7 comes before 8 on one line.
 unfoldable pub closed : After → Bool → List ℕ → Line
 closed absent within values = faulty lacksForm
 closed (after text) false values = faulty outOfRange
@@ -107,7 +110,7 @@ ended most (fields values text) = closed (afterKey lineEnd text) (inRange most v
 unfoldable pub lineOf : List (List ℕ) → ℕ → List ℕ → Line
 lineOf keys most text = ended most (fieldsOf keys text)
 
--- "that many lines": their numbers and the text after them, or the refusal's number and its line. at is the first one's number.
+-- So many lines: their numbers and the text after them, or the refusal's number and its line. at is the first one's number.
 pub data Lines : Type 0 where
   lines : List ℕ → List ℕ → Lines
   broken : ℕ → ℕ → Lines

@@ -1,5 +1,5 @@
--- Document 01: "Numbers are decimal with no leading zero except 0 itself". What a number at the front of a text is, and the
--- digits that a number is written with.
+-- What a number at the front of a text is, and the digits that a number is written with.
+-- 9.2: A number is written in decimal digits, and none but 0 itself begins with 0.
 use Prim.Native.Nat.{ℕ, zero, suc, _+_, _-_, _*_, _/_, _%_, min}
 use mathlib.Core.Bool.{Bool, true, false, _&&_}
 use mathlib.Core.List.{List, [], _∷_, _++_}
@@ -16,7 +16,9 @@ nineByte = 57
 unfoldable pub isDigit : ℕ → Bool
 isDigit byte = leb zeroByte byte && leb byte nineByte
 
--- "one over 4,294,967,295 is 8", whatever its length: every such number is out of range alike, and reads as this one.
+-- Every number over the most that any line allows is out of range alike, whatever its length, and reads as this one.
+-- 9.8: Refusal 8, at the line: a number is over the most that its line allows, which is 4,294,967,295 where nothing else is
+-- said.
 abbrev pub beyond : ℕ
 beyond = mostWord + 1
 
@@ -34,7 +36,8 @@ unfoldable pub digitsOn : List ℕ → ℕ → Number
 digitsOn [] value = number (min value beyond) []
 digitsOn (byte ∷ text) value = onByte (isDigit byte) (digitsOn text) value byte text
 
--- "no leading zero except 0 itself": a number that begins with 0 ends there.
+-- A number that begins with 0 ends there.
+-- 9.2: .. none but 0 itself begins with 0.
 unfoldable pub begun : Bool → Bool → ℕ → List ℕ → Number
 begun true digit byte text = number 0 text
 begun false true byte text = digitsOn text (byte - zeroByte)

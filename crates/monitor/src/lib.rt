@@ -20,7 +20,7 @@ ghost use Rattle.rules.specs.Answers.{inputs, answered, Tells, RunAnswers};
 ghost use Rattle.step.specs.Denoted.{arrays, Holds};
 ghost use Rattle.monitor.specs.Going.{turnedAway, Went};
 
-// "the lent trace exceeds 16,384 words"
+// 4.6: Refusal 6, at 0: the trace that is lent has more than 16,384 words.
 const MOST_TRACE_WORDS: usize = 16384;
 
 // How a run ended, and the state that it has reached: the memory, and how much of each array the rest takes.

@@ -1,4 +1,4 @@
--- Document 01's reports, byte by byte: of refusals, and of a run whose numbers all differ.
+-- Reports, byte by byte: of refusals, and of a run whose numbers all differ.
 use Prim.Native.Nat.{ℕ}
 use mathlib.Core.List.{List, [], _∷_}
 use mathlib.Core.Path.{_≡_}
@@ -54,10 +54,12 @@ stoppedRun =
     -- out=0,5
     111 ∷ 117 ∷ 116 ∷ 61 ∷ 48 ∷ 44 ∷ 53 ∷ 10 ∷ []
 
--- "A refusal prints `refused=` and `at=`, a line each."
+-- 9.12: The report of a refusal is the lines `refused=` with its number and `at=` with its row or line.
 abbrev pub RefusalsPrinted : Type 0
 RefusalsPrinted = (refusalText 7 12 ≡ faultyJob) × (report (whole (refused 4 0)) ≡ badTable)
 
--- "`levels` is the final mark set, `marked` how many variables it marks, `out` a record."
+-- 9.13: The report of a run is the lines `verdict=`, `place=`, `steps=`, `levels=` with the final mark set, `marked=` with
+-- how many variables it marks, `mem=` with the memory's values and commas between them, `records=` with their number, and
+-- for each record a line `out=` with its channel, a comma and its value.
 abbrev pub RunPrinted : Type 0
 RunPrinted = report (whole (verdict 1 17)) ≡ stoppedRun

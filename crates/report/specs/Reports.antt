@@ -1,4 +1,4 @@
--- Document 01, "Job and report": the bytes of a report.
+-- Section 9 of the rules: the bytes of a report.
 use Prim.Native.Nat.{ℕ, _-_}
 use mathlib.Core.List.{List, [], _∷_, _++_}
 use lib.ListN.{length, replicate}
@@ -47,11 +47,11 @@ outKey = 111 ∷ 117 ∷ 116 ∷ 61 ∷ []
 
 -- ---- the report
 
--- "A refusal prints `refused=` and `at=`, a line each."
+-- 9.12: The report of a refusal is the lines `refused=` with its number and `at=` with its row or line.
 unfoldable pub refusalText : ℕ → ℕ → List ℕ
 refusalText refusal at = oneText refusedKey refusal ++ oneText atKey at
 
--- "`out` a record"
+-- 9.13: .. for each record a line `out=` with its channel, a comma and its value.
 unfoldable pub recordText : Record → List ℕ
 recordText r = lineText (outKey ∷ comma ∷ []) (r .channel ∷ r .value ∷ [])
 
@@ -59,11 +59,12 @@ unfoldable pub recordsText : List Record → List ℕ
 recordsText [] = []
 recordsText (r ∷ records) = recordText r ++ recordsText records
 
--- the memory's line: its values with commas between them
+-- 9.13: .. `mem=` with the memory's values and commas between them, ..
 unfoldable pub memoryText : List ℕ → List ℕ
 memoryText memory = lineText (memKey ∷ replicate (length memory - 1) comma) memory
 
--- "`levels` is the final mark set, `marked` how many variables it marks"
+-- 9.13: The report of a run is the lines `verdict=`, `place=`, `steps=`, `levels=` with the final mark set, `marked=` with
+-- how many variables it marks, ..
 unfoldable pub headText : ℕ → ℕ → ℕ → ℕ → List ℕ
 headText number place steps marks =
     oneText verdictKey number
@@ -72,7 +73,10 @@ headText number place steps marks =
     ++ oneText levelsKey marks
     ++ oneText markedKey (marked marks)
 
--- the report of a run, from its verdict and place
+-- from its verdict and place
+-- 9.13: The report of a run is the lines `verdict=`, `place=`, `steps=`, `levels=` with the final mark set, `marked=` with
+-- how many variables it marks, `mem=` with the memory's values and commas between them, `records=` with their number, and
+-- for each record a line `out=` with its channel, a comma and its value.
 unfoldable pub runText : ℕ → ℕ → Whole → List ℕ
 runText number place w =
     headText number place (w .steps) (w .marks)

@@ -54,7 +54,7 @@ pub data WroteSaid : Type 0 where
   tooShort : WroteSaid
   lacking : WroteSaid
 
--- "Where the answer is an enum, there is a definition that gives this paper's number and values for each of its cases."
+-- 10.11: Where a function answers with an enum, a definition gives these rules' numbers and values for each of its cases.
 abbrev pub saidOfWrote : Wrote → WroteSaid
 saidOfWrote (Wrote.Bytes count) = bytes count
 saidOfWrote Wrote.TooShort = tooShort

@@ -1,4 +1,4 @@
--- The worked runs of document 01, proved by evaluating the rules.
+-- The worked runs, proved by evaluating the rules.
 use mathlib.Core.Path.{refl}
 use Rattle.rules.specs.Rows.{kindOf, rolesOf, isStatement, isExpression, isUnknown, rowOf, rowsOf, absent, rowAt}
 use Rattle.rules.specs.Trees.{operatorOf, exprNode, stmtNode, exprIn, exprAt, stmtIn, stmtAt, recipe}

@@ -21,7 +21,7 @@ Kept Fact (denied row) = Unit {0}
 Kept Fact (roomless row) = Unit {0}
 Kept Fact (taken σ) = Fact σ
 
--- Every step keeps the fact: one field for each line of "How a run goes".
+-- Every step keeps the fact: one field for each step of section 5.
 pub record Keeps (Fact : List Item → List ℕ → ℕ → List ℕ → Log → Type 0) : Type 0 where
   pub skip-kept :
       {k : List Item} {m : List ℕ} {l : ℕ} {p : List ℕ} {g : Log} → Fact (statement skip ∷ k) m l p g → Fact k m l p (counted g)

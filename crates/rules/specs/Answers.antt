@@ -1,4 +1,4 @@
--- Document 01: the whole answer of a call, in the document's numbers and values, and the trace afterwards.
+-- Sections 4, 6 and 8 of the rules: the whole answer of a call, and the trace afterwards.
 use Prim.Native.Nat.{ℕ, _/_}
 use mathlib.Core.List.{List, [], _∷_, _++_}
 use mathlib.Core.Bool.{false}
@@ -16,8 +16,8 @@ use Rattle.rules.specs.Judging.{orElse, judge, judgeTrace}
 use Rattle.rules.specs.Running.{Record, State, Terms, Outcome, start, run}
 use Rattle.rules.specs.LevelCheck.{Walked, walk, checkedOf}
 
--- What document 01 says of an answer: accepted; refused, with its number and row; a run's verdict and place; the level
--- check's pass, or fail with the lowest failing row.
+-- What the rules say of an answer: accepted; refused, with its number and row; a run's verdict and place; the level check's
+-- pass, or fail with the lowest failing row.
 pub data Said : Type 0 where
   accepted : Said
   refused : ℕ → ℕ → Said
@@ -25,13 +25,13 @@ pub data Said : Type 0 where
   pass : Said
   fail : ℕ → Said
 
--- "Where the answer is an enum, there is a definition that gives this paper's number and values for each of its cases."
+-- 10.11: Where a function answers with an enum, a definition gives these rules' numbers and values for each of its cases.
 abbrev pub saidOfJudge : Judged → Said
 saidOfJudge Judged.Accepted = accepted
 saidOfJudge (Judged.Refused number row) = refused number row
 
--- "budget used up gives verdict 2; else a denied output gives 1; else an output without room gives 3"; "A finished run is
--- verdict 0"; "Place is the output's row for verdicts 1 and 3, and 0 otherwise."
+-- 6.3: The verdict is 0 for done, 1 for stopped, 2 for spent and 3 for without room.
+-- 6.4: The place is the output's row for verdicts 1 and 3, and 0 for the others.
 abbrev pub saidOfRun : Ended → Said
 saidOfRun Ended.Done = verdict 0 0
 saidOfRun (Ended.Stopped row) = verdict 1 row
@@ -44,15 +44,17 @@ saidOfCheck Checked.Pass = pass
 saidOfCheck (Checked.Fail row) = fail row
 saidOfCheck (Checked.Refused number row) = refused number row
 
--- The judge's answer.
+-- 4.9: The judge and the level check are lent no trace and so meet 1 to 5 alone; ..
 unfoldable pub judgement : List ℕ → Said
 judgement words = saidOfJudge (judge words)
 
 -- What a call of the judge answers: the contract of the function, and what the promises speak of.
+-- 10.3: What the judge, a run and the level check answer, .. is what these rules say, and nothing else.
 abbrev pub JudgeAnswers : List ℕ → Judged → Type 0
 JudgeAnswers words judged = saidOfJudge judged ≡ judgement words
 
--- A run's whole answer. "Memory, marks, steps and records are those reached; marks do not include what is still in the pile."
+-- 6.5: Steps, records, memory and marks are answered as the run has reached them; sets that are still in the pile are not
+-- added to the marks.
 pub record Whole : Type 0 where
   pub said : Said
   pub steps : ℕ
@@ -73,7 +75,9 @@ reached o = record {
 abbrev pub final : Terms → ℕ → State → Whole
 final terms budget σ = reached (run terms budget σ)
 
--- What a run is given: "table of words, start memory, mark set, step budget and trace room", the trace as it is lent.
+-- The trace is as it is lent.
+-- 1.4: A run is given a table, a memory, a mark set, a budget of steps and a trace to write records into; no memory, mark
+-- set or budget from 0 to 4,294,967,295 is refused.
 pub record Inputs : Type 0 where
   pub words : List ℕ
   pub memory : List ℕ
@@ -84,7 +88,7 @@ pub record Inputs : Type 0 where
 abbrev pub inputs : List ℕ → List ℕ → ℕ → ℕ → List ℕ → Inputs
 inputs words memory marks budget trace = record { words = words; memory = memory; marks = marks; budget = budget; trace = trace }
 
--- "Room is half the word count, rounded down."
+-- 6.7: A trace has room for half as many records as it has words, rounded down.
 unfoldable pub termsOf : ℕ → Terms
 termsOf traceWords = record { room = traceWords / recordWords }
 
@@ -92,8 +96,8 @@ termsOf traceWords = record { room = traceWords / recordWords }
 abbrev pub started : Inputs → State
 started i = start (recipe (rowsOf (i .words))) (i .memory) (i .marks)
 
--- "A refused run answers its number and row instead of verdict and place, with 0 steps and 0 records, returns memory and
--- marks as given and writes no trace word."
+-- 4.8: A refused run answers the refusal's number and row in place of a verdict and a place, with 0 steps and 0 records,
+-- and memory, mark set and trace are as they were given.
 unfoldable pub answered : Judged → Inputs → Whole
 answered Judged.Accepted i = final (termsOf (length (i .trace))) (i .budget) (started i)
 answered (Judged.Refused number row) i = record {
@@ -104,24 +108,25 @@ answered (Judged.Refused number row) i = record {
   marks = i .marks;
 }
 
--- "The lowest number from 1 to 6 that applies anywhere"
+-- 4.7: Of the refusals 1 to 6 that apply anywhere, the one with the lowest number is given, at the lowest row at which it
+-- applies; where none applies the table is accepted.
 abbrev pub admitted : Inputs → Judged
 admitted i = orElse (judge (i .words)) (judgeTrace (length (i .trace)))
 
--- The answer of a run.
+-- 10.1: Whatever is given there is one answer, ..
 unfoldable pub answer : Inputs → Whole
 answer i = answered (admitted i) i
 
--- "A record is two trace words: channel, value."
+-- 6.6: A record takes two words of the trace, its channel and then its value.
 unfoldable pub traceWordsOf : List Record → List ℕ
 traceWordsOf [] = []
 traceWordsOf (r ∷ rs) = r .channel ∷ r .value ∷ traceWordsOf rs
 
--- "Words after the last record keep their old contents."
+-- 6.8: The records stand at the front of the trace in their order, and the words after them keep what they held.
 unfoldable pub traceAfter : List Record → List ℕ → List ℕ
 traceAfter records trace = traceWordsOf records ++ drop (length (traceWordsOf records)) trace
 
--- What a run's answer tells, in document 01's numbers and values; its records are the first words of the trace.
+-- What a run's answer tells, in the rules' numbers and values; its records are the first words of the trace.
 pub record Told : Type 0 where
   pub said : Said
   pub steps : ℕ
@@ -140,28 +145,33 @@ pub record Tells (whole : Whole) (trace : List ℕ) (a : Answer) (after : List �
   pub told : toldOf a ≡ telling whole
   pub trace-after : after ≡ traceAfter (whole .records) trace
 
--- What a call of the run answers, and what it leaves in the trace: the contract of the function, and what the promises speak of.
+-- What a call of the run answers, and what it leaves in the trace: the contract of the function, and what the promises
+-- speak of.
+-- 10.3: What the judge, a run and the level check answer, and what a run leaves in the trace, is what these rules say, and
+-- nothing else.
 abbrev pub RunAnswers : Inputs → Answer → List ℕ → Type 0
 RunAnswers i = Tells (answer i) (i .trace)
 
--- The level check's whole answer: what it says, "and the final marks in either case".
+-- The level check's whole answer.
+-- 8.7: .. it answers the marks that the recipe leaves in both cases.
 pub record Advised : Type 0 where
   pub said : Said
   pub marks : ℕ
 
--- "The level check can meet 1 to 5; it then returns its marks as given."
+-- 4.9: .. a refused check answers the mark set that it was given.
 unfoldable pub advised : Judged → ℕ → Walked → Advised
 advised Judged.Accepted marks w = record { said = saidOfCheck (checkedOf (w .failing)); marks = w .marks }
 advised (Judged.Refused number row) marks w = record { said = refused number row; marks = marks }
 
--- "Start with a mark set and a settled context."
+-- 8.1: The check starts with a mark set, in a settled context.
 unfoldable pub advice : List ℕ → ℕ → Advised
 advice words marks = advised (judge words) marks (walk (recipe (rowsOf words)) false marks)
 
--- what the level check's answer says, in document 01's numbers and values
+-- what the level check's answer says, in the rules' numbers and values
 abbrev pub advisedOf : Advice → Advised
 advisedOf a = record { said = saidOfCheck (a .checked); marks = a .marks }
 
 -- What a call of the level check answers: the contract of the function, and what the promises speak of.
+-- 10.3: What the judge, a run and the level check answer, .. is what these rules say, and nothing else.
 abbrev pub CheckAnswers : List ℕ → ℕ → Advice → Type 0
 CheckAnswers words marks a = advisedOf a ≡ advice words marks

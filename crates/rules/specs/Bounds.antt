@@ -1,5 +1,5 @@
--- What every state of a run of an accepted table keeps to: the words in which laws and private contracts speak of the room that
--- the code's arrays need. Nothing of document 01 is decided here.
+-- What every state of a run of an accepted table keeps to: the words in which laws and private contracts speak of the room
+-- that the code's arrays need. No rule is decided here.
 use Prim.Native.Nat.{ℕ, _+_, _^_, _≤_, _<_, max}
 use mathlib.Core.List.{List, [], _∷_}
 use lib.ListN.{length}

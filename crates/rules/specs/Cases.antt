@@ -1,4 +1,4 @@
--- What a worked run of document 01 is: the table, memory, marks, budget and trace given, and everything expected of them.
+-- What a worked run is: the table, memory, marks, budget and trace given, and everything expected of them.
 use Prim.Native.Nat.{ℕ, _-_}
 use mathlib.Core.List.{List, [], _∷_, _++_, map}
 use mathlib.Core.Path.{_≡_}
@@ -53,7 +53,8 @@ resultOf g = record {
 abbrev pub Met : List Case → Type 0
 Met cases = map (λ (c : Case). resultOf (c .given)) cases ≡ map (λ (c : Case). c .expected) cases
 
--- "Unless stated, v0 alone is marked, every variable is 0, budget 100, room 8."
+-- 12.1: Where nothing else is said, v0 alone is marked, all variables are 0, the budget is 100 and there is room for 8
+-- records.
 abbrev pub usualMarks : ℕ
 usualMarks = 1
 

@@ -1,5 +1,5 @@
--- Runs that A to I do not cover, with everything that is expected of each: L to P, the document's whole case, a denied
--- output with no budget left, and runs that are refused.
+-- Runs that A to I do not cover, with everything that is expected of each: L to P, the whole case, a denied output with no
+-- budget left, and runs that are refused.
 use Prim.Native.Nat.{ℕ}
 use mathlib.Core.Path.{_≡_}
 use mathlib.Core.List.{List, [], _∷_}
@@ -52,7 +52,7 @@ tableO =
 abbrev tableP : List Quad
 tableP = (9, 2, 0, 0) ∷ (9, 1, 0, 0) ∷ (5, 0, 1, 0) ∷ (9, 0, 0, 0) ∷ (1, 1, 3, 0) ∷ (2, 2, 4, 0) ∷ (4, 0, 5, 0) ∷ []
 
--- the whole case of "Job and report": output settled v0; output provisional v1
+-- the whole case: output settled v0; output provisional v1
 abbrev tableWhole : List Quad
 tableWhole = (9, 0, 0, 0) ∷ (5, 0, 0, 0) ∷ (9, 1, 0, 0) ∷ (5, 1, 2, 0) ∷ (2, 1, 3, 0) ∷ []
 
@@ -72,23 +72,23 @@ tableRefused = (0, 0, 0, 0) ∷ (8, 0, 0, 0) ∷ (1, 0, 1, 0) ∷ []
 abbrev one : List ℕ
 one = 1 ∷ []
 
--- "verdict 1, 6 steps, marks 3"
+-- L: verdict 1, 6 steps, marks 3
 abbrev runL : Case
 runL = recordless (usual tableL one) (verdict 1 11) 6 one 3 (fail 11) 3
 
--- "verdict 1, 4 steps, marks 3"
+-- M: verdict 1, 4 steps, marks 3
 abbrev runM : Case
 runM = recordless (usual tableM one) (verdict 1 7) 4 one 3 (fail 7) 11
 
--- "verdict 1, 1 step"
+-- N: verdict 1, 1 step
 abbrev runN : Case
 runN = recordless (usual tableN one) (verdict 1 2) 1 one 1 (fail 2) 1
 
--- "verdict 0, 3 steps, marks 7"
+-- O: verdict 0, 3 steps, marks 7
 abbrev runO : Case
 runO = recordless (usual tableO one) (verdict 0 0) 3 one 7 pass 7
 
--- the check "fails, marks 3"; its run does not enter the loop
+-- P: the check fails, marks 3; its run does not enter the loop
 abbrev runP : Case
 runP = recordless (usual tableP one) (verdict 0 0) 2 one 1 (fail 2) 3
 
@@ -108,15 +108,16 @@ runWhole = record {
   };
 }
 
--- "budget used up gives verdict 2; else a denied output gives 1"
+-- 6.2: .. in this order: the budget is used up, and the run is spent; the step is an output that is denied, ..
 abbrev runDenied : Case
 runDenied =
     recordless
     (record { table = tableDenied; memory = one; marks = usualMarks; budget = 0; trace = usualTrace })
     (verdict 2 0) 0 one 1 (fail 1) 1
 
--- "A refused run answers its number and row instead of verdict and place, with 0 steps and 0 records, returns memory and
--- marks as given and writes no trace word. The level check .. then returns its marks as given."
+-- 4.8: A refused run answers the refusal's number and row in place of a verdict and a place, with 0 steps and 0 records,
+-- and memory, mark set and trace are as they were given.
+-- 4.9: .. a refused check answers the mark set that it was given.
 abbrev runRefused : Case
 runRefused = recordless (usual tableRefused one) (refused 4 0) 0 one 1 (refused 4 0) 1
 
@@ -127,7 +128,8 @@ runOversized =
     (record { table = tableSettled; memory = one; marks = usualMarks; budget = usualBudget; trace = replicate 16385 0 })
     (refused 6 0) 0 one 1 pass 0
 
--- "The lowest number from 1 to 6 that applies anywhere is given": 4 before 6
+-- 4 before 6
+-- 4.7: Of the refusals 1 to 6 that apply anywhere, the one with the lowest number is given, ..
 abbrev runBoth : Case
 runBoth =
     recordless

@@ -1,4 +1,4 @@
--- Document 01, "Numbers for no": when each of the refusals 1 to 6 is given, and which one.
+-- Section 4 of the rules: when each of the refusals 1 to 6 is given, and which one.
 use Prim.Native.Nat.{ℕ, zero, suc, _+_, _/_, _%_}
 use mathlib.Core.Bool.{Bool, false, cond, not, _||_}
 use mathlib.Core.List.{List, [], _∷_, _++_}
@@ -11,12 +11,13 @@ use Rattle.rules.specs.Limits.{width, rowWords, mostRows, highestChannel
 use Rattle.rules.specs.Rows.{rolesOf, isStatement, isExpression, isUnknown, rowsOf, rowAt}
 use Rattle.rules.specs.Trees.{exprAt, stmtAt, height, nesting, loopNesting}
 
--- 1: "word count not a multiple of 4, or 0 rows, or over 512 rows"
+-- 4.1: Refusal 1, at 0: the number of words is not a multiple of 4, or there is no row, or there are more than 512.
 unfoldable pub wrongCount : List ℕ → Bool
 wrongCount words =
     not (eqb (length words % rowWords) 0) || eqb (length words / rowWords) 0 || ltb mostRows (length words / rowWords)
 
--- 2: "unknown kind; named word out of range (variable over 31, channel over 1, operator over 5); unnamed word not 0"
+-- 4.2: Refusal 2, at the row: its kind is unknown, or a variable in it is over 31, a channel over 1 or an operator over 5,
+-- or a word without a name is not 0.
 unfoldable pub wrongWord : Role → ℕ → Bool
 wrongWord Role.Unnamed w = not (eqb w 0)
 wrongWord Role.Variable w = leb width w
@@ -31,7 +32,8 @@ wrongWords row =
     isUnknown (row .kind) || wrongWord (rolesOf (row .kind) .p) (row .p) || wrongWord (rolesOf (row .kind) .q) (row .q)
     || wrongWord (rolesOf (row .kind) .r) (row .r)
 
--- 3: "a child's number not below its parent's, or a child of the wrong sort"
+-- 4.3: Refusal 3, at the row: a child's number is not lower than its own, or a child is an expression where a statement
+-- belongs, or the other way round.
 unfoldable pub wrongChild : List Row → ℕ → Role → ℕ → Bool
 wrongChild rows parent Role.Unnamed w = false
 wrongChild rows parent Role.Variable w = false
@@ -46,7 +48,8 @@ wrongChildren rows i row =
     wrongChild rows i (rolesOf (row .kind) .p) (row .p) || wrongChild rows i (rolesOf (row .kind) .q) (row .q)
     || wrongChild rows i (rolesOf (row .kind) .r) (row .r)
 
--- the row that a word names as a child, if it names one
+-- the row that a word names, if it names one
+-- 2.5: .. a word that is a statement or an expression names a row by its number: that row is a child.
 unfoldable pub childOf : Role → ℕ → List ℕ
 childOf Role.Unnamed w = []
 childOf Role.Variable w = []
@@ -68,11 +71,12 @@ unfoldable pub places : ℕ → List ℕ → ℕ
 places i [] = 0
 places i (child ∷ rest) = cond (eqb child i) 1 0 + places i rest
 
--- 4: "a row before the last is a child of no row or more than one place; or the last row is an expression"
+-- 4.4: Refusal 4, at the row: it is not the last and does not stand as a child at exactly one place, or it is the last and
+-- an expression.
 unfoldable pub wrongParents : List Row → List ℕ → ℕ → Bool
 wrongParents rows childs i = cond (eqb (i + 1) (length rows)) (isExpression (rowAt rows i .kind)) (not (eqb (places i childs) 1))
 
--- 5: "expression height over 16, nesting over 8 or loop nesting over 3"
+-- 4.5: Refusal 5, at the row: its height is over 16, its nesting over 8 or its loop nesting over 3.
 unfoldable pub tooDeep : List Row → ℕ → Bool
 tooDeep rows i =
     ltb mostHeight (height (exprAt rows i)) || ltb mostNesting (nesting (stmtAt rows i)) || ltb mostLoopNesting (loopNesting (stmtAt rows i))
@@ -92,10 +96,12 @@ judgeRows rows =
     (orElse (lowest 3 (λ i. wrongChildren rows i (rowAt rows i)) 0 (length rows))
     (orElse (lowest 4 (wrongParents rows (children rows)) 0 (length rows)) (lowest 5 (tooDeep rows) 0 (length rows))))
 
--- "The lowest number from 1 to 6 that applies anywhere is given, with its lowest row." The table's part: 1 to 5.
+-- The table's part: 1 to 5.
+-- 4.7: Of the refusals 1 to 6 that apply anywhere, the one with the lowest number is given, at the lowest row at which it
+-- applies; where none applies the table is accepted.
 unfoldable pub judge : List ℕ → Judged
 judge words = orElse (cond (wrongCount words) (Judged.Refused 1 0) Judged.Accepted) (judgeRows (rowsOf words))
 
--- 6: "the lent trace exceeds 16,384 words"
+-- 4.6: Refusal 6, at 0: the trace that is lent has more than 16,384 words.
 unfoldable pub judgeTrace : ℕ → Judged
 judgeTrace traceWords = cond (ltb mostTraceWords traceWords) (Judged.Refused 6 0) Judged.Accepted

@@ -1,4 +1,4 @@
--- Document 01, "Level check": the walk that finds the least solution of the rules, and its answer.
+-- Section 8 of the rules: the walk that finds the least solution, and its answer.
 use Prim.Native.Nat.{ℕ, zero, suc, _+_, min}
 use mathlib.Core.Bool.{Bool, true, false, cond, _&&_}
 use mathlib.Core.List.{List, [], _∷_, _++_}
@@ -24,7 +24,7 @@ joined first second = walked (second .marks) (first .failing ++ second .failing)
 abbrev pub afterwards : Walked → (ℕ → Walked) → Walked
 afterwards first next = joined first (next (first .marks))
 
--- "the results are united"
+-- 8.4: .. what they leave is united.
 abbrev pub united : Walked → Walked → Walked
 united then else = walked (union (then .marks) (else .marks)) (then .failing ++ else .failing)
 
@@ -37,8 +37,9 @@ unfoldable pub added : (ℕ → Walked) → ℕ → Walked → Walked
 added onward marks turn =
     rested (eqb (union marks (turn .marks)) marks) onward marks (union marks (turn .marks)) (turn .failing)
 
--- "the least mark set that contains the incoming one and the result of the body started from it": the body is walked from
--- the incoming set, what comes back is added, and it is walked again until nothing is added
+-- The body is walked from the incoming set, what comes back is added, and it is walked again until nothing is added.
+-- 8.5: What a while leaves is the least mark set that contains the marks before it and what its body leaves when it starts
+-- with that set itself, ..
 unfoldable pub rounds : ℕ → (ℕ → Walked) → ℕ → Walked
 rounds zero body marks = walked marks []
 rounds (suc n) body marks = added (rounds n body) marks (body marks)
@@ -56,7 +57,7 @@ abbrev pub lowestOf : ℕ → List ℕ → ℕ
 lowestOf row [] = row
 lowestOf row (other ∷ rows) = lowestOf (min row other) rows
 
--- "The answer is pass, or fail with the lowest failing row".
+-- 8.7: The check passes where no output fails, and else fails at the lowest row that does; ..
 abbrev pub checkedOf : List ℕ → Checked
 checkedOf [] = Checked.Pass
 checkedOf (row ∷ rows) = Checked.Fail (lowestOf row rows)

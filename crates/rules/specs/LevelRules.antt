@@ -1,4 +1,5 @@
--- Document 01, "Level check": the flow-sensitive rules of Hunt and Sands as they are declared, apart from any way to solve them.
+-- Section 8 of the rules: the flow-sensitive rules of Hunt and Sands as they are declared, apart from any way to solve
+-- them.
 use Prim.Native.Nat.{ℕ}
 use mathlib.Core.Bool.{Bool, cond, _||_, _&&_}
 use mathlib.Core.List.{List, [], _∷_, _++_}
@@ -7,7 +8,7 @@ use Rattle.rules.specs.Marks.{put, union, _⊆_, provisional}
 use Rattle.rules.specs.Trees.{Expr, Stmt, skip, assign, sequence, if, while, output}
 use Rattle.rules.specs.Values.{level}
 
--- the expression is provisional under these marks, or the context is
+-- 8.2: An expression is guarded here where it is provisional under the marks, or the context is provisional.
 abbrev pub under : Expr → Bool → ℕ → Bool
 under e context marks = provisional (level marks e) || context
 
@@ -21,8 +22,10 @@ Choice (while e s) = ℕ × Choice s
 Choice (output c e row) = Unit {0}
 
 -- What the statement makes of the incoming marks, in a context, where each loop's result is the set chosen for it.
--- "Assign marks its variable if expression or context is provisional, else unmarks it. For if, both branches start alike,
--- their context provisional if test or outer context is; the results are united."
+-- 8.3: Skip leaves the marks as they are; assign marks its variable where the expression is guarded and else unmarks it;
+-- the second statement of a sequence starts with the marks that the first leaves.
+-- 8.4: Both branches of an if start with the same marks, in a provisional context where the test is guarded; what they
+-- leave is united.
 abbrev pub result : (s : Stmt) → Choice s → Bool → ℕ → ℕ
 result skip choice context marks = marks
 result (assign v e) choice context marks = put v (under e context marks) marks
@@ -32,8 +35,9 @@ result (if e s t) choice context marks =
 result (while e s) choice context marks = choice .0
 result (output c e row) choice context marks = marks
 
--- The choice is a solution: each loop's set "contains the incoming one and the result of the body started from it, its
--- context provisional if the outer one is or the test is under that same set".
+-- The choice is a solution: each loop's set contains what the sentence says.
+-- 8.5: What a while leaves is the least mark set that contains the marks before it and what its body leaves when it starts
+-- with that set itself, in a provisional context where the test is guarded under that set.
 abbrev pub Solves : (s : Stmt) → Choice s → Bool → ℕ → Type 0
 Solves skip choice context marks = Unit {0}
 Solves (assign v e) choice context marks = Unit {0}
@@ -55,8 +59,9 @@ Within (if e s t) a b = Within s (a .0) (b .0) × Within t (a .1) (b .1)
 Within (while e s) a b = (a .0 ⊆ b .0) × Within s (a .1) (b .1)
 Within (output c e row) a b = Unit {0}
 
--- "An output changes no mark and fails if it is on channel 0 and its expression or context is provisional; inside loops the
--- final sets count": the failing rows, in reading order.
+-- the failing rows, in reading order
+-- 8.6: An output leaves the marks as they are, and it fails where its channel is 0 and its expression guarded; within loops
+-- this is asked under the sets that the loops leave.
 abbrev pub failing : (s : Stmt) → Choice s → Bool → ℕ → List ℕ
 failing skip choice context marks = []
 failing (assign v e) choice context marks = []

@@ -1,4 +1,4 @@
--- The rules of document 01 as definitions that compute, in the document's order, each under the sentence that it renders.
+-- The rules of docs/RULES.md as definitions that compute, in its order, each under the sentence that it renders.
 pub mod Limits
 pub mod Rows
 pub mod Trees

@@ -1,31 +1,32 @@
--- The numbers of document 01, each once, under a name.
+-- The numbers of the rules, each once, under a name.
 use Prim.Native.Nat.{ℕ}
 
--- "Values and table words are 32-bit unsigned."
+-- 1.1: A value is a whole number from 0 to 4,294,967,295, and so is a word of a table: 32 bits.
 abbrev pub wordBits : ℕ
 wordBits = 32
 
--- "Memory has 32 variables, v0 to v31"; "A mark set is 32 bits".
+-- 1.2: There are 32 variables, v0 to v31, and a memory holds a value for each of them.
+-- 1.3: A mark set is a number of 32 bits: bit i is 1 where vi is marked, that is provisional, and 0 where vi is settled.
 abbrev pub width : ℕ
 width = 32
 
--- "A row is four words: kind, p, q, r."
+-- 2.1: A table is a list of words, and each four of them are a row: its kind, and then p, q and r.
 abbrev pub rowWords : ℕ
 rowWords = 4
 
--- "over 512 rows"
+-- 4.1: Refusal 1, at 0: .. there are more than 512.
 abbrev pub mostRows : ℕ
 mostRows = 512
 
--- "channel over 1"
+-- 4.2: Refusal 2, at the row: .. a channel over 1 ..
 abbrev pub highestChannel : ℕ
 highestChannel = 1
 
--- "operator over 5"
+-- 4.2: Refusal 2, at the row: .. an operator over 5, ..
 abbrev pub highestOperator : ℕ
 highestOperator = 5
 
--- "expression height over 16, nesting over 8 or loop nesting over 3"
+-- 4.5: Refusal 5, at the row: its height is over 16, its nesting over 8 or its loop nesting over 3.
 abbrev pub mostHeight : ℕ
 mostHeight = 16
 
@@ -35,14 +36,14 @@ mostNesting = 8
 abbrev pub mostLoopNesting : ℕ
 mostLoopNesting = 3
 
--- "the lent trace exceeds 16,384 words"
+-- 4.6: Refusal 6, at 0: the trace that is lent has more than 16,384 words.
 abbrev pub mostTraceWords : ℕ
 mostTraceWords = 16384
 
--- "the job exceeds 32,768 bytes"
+-- 9.9: Refusal 9, at 0: the job is longer than 32,768 bytes.
 abbrev pub mostJobBytes : ℕ
 mostJobBytes = 32768
 
--- "A record is two trace words: channel, value."
+-- 6.6: A record takes two words of the trace, its channel and then its value.
 abbrev pub recordWords : ℕ
 recordWords = 2

@@ -1,5 +1,6 @@
--- Document 01: "The lowest number from 1 to 6 that applies anywhere is given, with its lowest row." What that says of any
--- judgement, and the claim that it is so of the judge and of a run.
+-- What the sentence says of any judgement, and the claim that it is so of the judge and of a run.
+-- 4.7: Of the refusals 1 to 6 that apply anywhere, the one with the lowest number is given, at the lowest row at which it
+-- applies; where none applies the table is accepted.
 use Prim.Native.Nat.{ℕ, _≤_, _<_}
 use mathlib.Core.Bool.{true}
 use mathlib.Core.List.{List}
@@ -11,7 +12,7 @@ use Rattle.rules.specs.Limits.{mostTraceWords}
 use Rattle.rules.specs.Rows.{rowsOf, rowAt}
 use Rattle.rules.specs.Judging.{wrongCount, wrongWords, wrongChildren, children, wrongParents, tooDeep, orElse, judge, judgeTrace}
 
--- "Numbers for no", a line each: the refusal's number, and the row that it applies at, where it applies.
+-- The refusals, a line each: the refusal's number, and the row that it applies at, where it applies.
 pub data Applies (words : List ℕ) (traceWords : ℕ) : ℕ → ℕ → Type 0 where
   count : wrongCount words ≡ true → Applies words traceWords 1 0
   word : (row : ℕ) → row < length (rowsOf words) → wrongWords (rowAt (rowsOf words) row) ≡ true → Applies words traceWords 2 row

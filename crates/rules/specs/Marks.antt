@@ -1,4 +1,5 @@
--- Document 01: "A mark set is 32 bits; bit i set means that vi is provisional." Every set of variables is such a number.
+-- 1.3: A mark set is a number of 32 bits: bit i is 1 where vi is marked, that is provisional, and 0 where vi is settled.
+-- 1.5: Every other set of variables is a number of the same form as a mark set.
 use Prim.Native.Nat.{ℕ, zero, suc, _+_, _*_, _/_, _%_}
 use mathlib.Core.Bool.{Bool, true, cond, not}
 use lib.Bits.{bitOr}
@@ -32,11 +33,12 @@ infix 4 _⊆_
 abbrev pub _⊆_ : ℕ → ℕ → Type 0
 a ⊆ b = (i : ℕ) → T (has a i) → T (has b i)
 
--- A level is the set of marked variables that were read; it is "provisional when some variable read in it is marked".
+-- 3.7: An expression is provisional where its level is not empty, and else it is settled; ..
 unfoldable pub provisional : ℕ → Bool
 provisional level = not (eqb level 0)
 
--- "`marked` how many variables it marks": how many of the first n, and of all
+-- how many of the first n, and of all
+-- 9.13: .. `marked=` with how many variables it marks, ..
 unfoldable pub markedBelow : ℕ → ℕ → ℕ
 markedBelow zero set = 0
 markedBelow (suc n) set = cond (has set n) 1 0 + markedBelow n set

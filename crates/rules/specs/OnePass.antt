@@ -1,5 +1,5 @@
--- What a judge knows that goes through the rows once: the children of one row, and a row's depth from those of its children.
--- Nothing of document 01 is decided here: private contracts speak in these words, and laws join them with the rules.
+-- What a judge knows that goes through the rows once: the children of one row, and a row's depth from those of its
+-- children. No rule is decided here: private contracts speak in these words, and laws join them with the rules.
 use Prim.Native.Nat.{ℕ, _+_, max}
 use mathlib.Core.Bool.{Bool, _||_}
 use mathlib.Core.List.{List, _++_}

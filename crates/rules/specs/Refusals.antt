@@ -1,4 +1,4 @@
--- Document 01: cases J and K, a case for each refusal that a table can meet, and a recipe of 512 rows run and checked.
+-- J and K of the rules, a case for each refusal that a table can meet, and a recipe of 512 rows run and checked.
 use Prim.Native.Nat.{ℕ, zero, suc, _+_, _-_}
 use mathlib.Core.List.{List, [], _∷_, _++_, map}
 use mathlib.Core.Path.{_≡_}
@@ -17,11 +17,13 @@ use Rattle.rules.specs.Cases.{Quad, wordsOf, memoryOf}
 abbrev pub Operation : Type 0
 Operation = Operator × ℕ × ℕ × ℕ
 
--- J. "4,294,967,295 + 1 = 0; 0 - 1 = 4,294,967,295; 5 / 0 = 0."
+-- 12.11: J: 4,294,967,295 + 1 is 0, 0 - 1 is 4,294,967,295, and 5 / 0 is 0.
 abbrev caseJ : List Operation
 caseJ = (Operator.Sum, 4294967295, 1, 0) ∷ (Operator.Difference, 0, 1, 4294967295) ∷ (Operator.Quotient, 5, 0, 0) ∷ []
 
--- "2 product (all modulo 2^32), 3 whole quotient, .. 4 equal, 5 less (both give 1 or 0)"
+-- 3.2: .. product are modulo 2^32.
+-- 3.3: The quotient is rounded down, ..
+-- 3.4: Equal and less give 1 where the left side is equal to or less than the right one, and else 0.
 abbrev otherOperations : List Operation
 otherOperations =
     (Operator.Product, 4294967295, 4294967295, 1)
@@ -73,7 +75,8 @@ pub record Judgement : Type 0 where
 abbrev table : List Quad → Said → Judgement
 table rows said = record { words = wordsOf rows; said = said }
 
--- K. "512 rows accepted, 513 refused 1; height 16 accepted, 17 refused 5; nesting 8 and 9, loop nesting 3 and 4 likewise"
+-- 12.12: K: 512 rows are accepted and 513 refused by 1; height 16, nesting 8 and loop nesting 3 are accepted, and 17, 9 and
+-- 4 refused by 5; ..
 abbrev atTheLimits : List Judgement
 atTheLimits =
     table (long 255) accepted
@@ -118,7 +121,8 @@ badTables =
 unfoldable pub judgements : List Judgement
 judgements = atTheLimits ++ badTables
 
--- K. "16,384 and 16,385 trace words, 6": skip with a budget of 1 and so many trace words
+-- skip with a budget of 1 and so many trace words
+-- 12.12: .. a trace of 16,384 words is accepted and one of 16,385 refused by 6.
 unfoldable pub traced : ℕ → Said
 traced traceWords =
     answer (inputs (0 ∷ 0 ∷ 0 ∷ 0 ∷ []) (memoryOf []) 0 1 (replicate traceWords 0)) .said

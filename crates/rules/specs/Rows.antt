@@ -1,4 +1,4 @@
--- Document 01, "The table": kinds, what each word of a row is, and the rows of a table of words.
+-- Section 2 of the rules: kinds, what each word of a row is, and the rows of a table of words.
 use Prim.Native.Nat.{ℕ}
 use mathlib.Core.Bool.{Bool, true, false, cond}
 use mathlib.Core.List.{List, [], _∷_}
@@ -9,7 +9,7 @@ use Rattle.rules.specs.declared.Role.{Role}
 use Rattle.rules.specs.declared.Roles.{Roles}
 use Rattle.rules.specs.declared.Row.{Row}
 
--- The table of kinds: its first column.
+-- 2.2: The kinds have these numbers, and every other number is an unknown kind.
 unfoldable pub kindOf : ℕ → Kind
 kindOf k =
     cond (eqb k 0) Kind.Skip
@@ -22,7 +22,7 @@ kindOf k =
     (cond (eqb k 9) Kind.Variable
     (cond (eqb k 10) Kind.Binary Kind.Unknown))))))))
 
--- The table of kinds: its columns p, q and r. "Words not named must be 0."
+-- 2.3: What p, q and r are is fixed by the kind; where nothing stands the word has no name.
 unfoldable pub rolesOf : Kind → Roles
 rolesOf Kind.Skip = record { p = Role.Unnamed; q = Role.Unnamed; r = Role.Unnamed }
 rolesOf Kind.Assign = record { p = Role.Variable; q = Role.Expression; r = Role.Unnamed }
@@ -35,7 +35,8 @@ rolesOf Kind.Variable = record { p = Role.Variable; q = Role.Unnamed; r = Role.U
 rolesOf Kind.Binary = record { p = Role.Operator; q = Role.Expression; r = Role.Expression }
 rolesOf Kind.Unknown = record { p = Role.Unnamed; q = Role.Unnamed; r = Role.Unnamed }
 
--- "Kinds 0 to 5 are statements, 8 to 10 expressions."
+-- 2.4: The kinds skip, assign, sequence, if, while and output are statements; constant, variable and binary are
+-- expressions.
 unfoldable pub isStatement : Kind → Bool
 isStatement Kind.Skip = true
 isStatement Kind.Assign = true
@@ -72,7 +73,7 @@ isUnknown Kind.Variable = false
 isUnknown Kind.Binary = false
 isUnknown Kind.Unknown = true
 
--- "A row is four words: kind, p, q, r."
+-- 2.1: A table is a list of words, and each four of them are a row: its kind, and then p, q and r.
 unfoldable pub rowOf : ℕ → ℕ → ℕ → ℕ → Row
 rowOf k p q r = record { kind = kindOf k; p = p; q = q; r = r }
 
@@ -88,6 +89,6 @@ rowsOf (k ∷ p ∷ q ∷ r ∷ words) = rowOf k p q r ∷ rowsOf words
 unfoldable pub absent : Row
 absent = record { kind = Kind.Unknown; p = 0; q = 0; r = 0 }
 
--- The row of a number; rows count from 0.
+-- 2.5: Rows are numbered from 0, ..
 unfoldable pub rowAt : List Row → ℕ → Row
 rowAt rows i = getD rows i absent

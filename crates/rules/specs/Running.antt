@@ -1,4 +1,4 @@
--- Document 01, "How a run goes": the state, one step, and the run.
+-- Sections 5 and 6 of the rules: the state, one step, and the run.
 use Prim.Native.Nat.{ℕ, zero, suc, _+_}
 use mathlib.Core.Bool.{Bool, true, false, _||_, _&&_}
 use mathlib.Core.List.{List, [], _∷_, _++_}
@@ -9,12 +9,12 @@ use Rattle.rules.specs.Marks.{none, put, union, provisional}
 use Rattle.rules.specs.Trees.{Expr, Stmt, skip, assign, sequence, if, while, output}
 use Rattle.rules.specs.Values.{value, holds, level, mayAssign}
 
--- What is still to be done: a statement, or a close.
+-- 5.1: A run has a list of what is pending, statements and closes, and always goes on with the first; ..
 pub data Item : Type 0 where
   statement : Stmt → Item
   close : Item
 
--- "A record is two trace words: channel, value."
+-- 5.14: A record is a channel and a value: ..
 pub record Record : Type 0 where
   pub channel : ℕ
   pub value : ℕ
@@ -50,32 +50,34 @@ blank = record { records = []; steps = 0 }
 pub record Terms : Type 0 where
   pub room : ℕ
 
--- "The monitor holds the marks and a pile of mark sets, empty at the start."
+-- 5.1: .. at the start the recipe alone is pending.
+-- 5.2: The monitor holds the marks, at the start those given, and a pile of sets of variables, at the start an empty one.
 unfoldable pub start : Stmt → List ℕ → ℕ → State
 start recipe memory marks = state (statement recipe ∷ []) memory marks [] blank
 
--- "The run's context is provisional when the pile is not empty."
+-- 5.3: The context is provisional while the pile is not empty.
 abbrev pub context : List ℕ → Bool
 context [] = false
 context (top ∷ below) = true
 
--- the expression is provisional, or the context
+-- 5.4: An expression is guarded where it is provisional or the context is.
 unfoldable pub guarded : Expr → State → Bool
 guarded e σ = provisional (level (σ .marks) e) || context (σ .pile)
 
--- "If the test or context is provisional, push the set"
+-- where the test is guarded, this set is put on the pile
 abbrev pub push : Bool → ℕ → List ℕ → List ℕ
 push true pushed pile = pushed ∷ pile
 push false pushed pile = pile
 
--- "Each line is one step": each of the following is one, and counts it, whether or not it writes a record.
+-- one step more, and one record more where it writes one
+-- 5.5: Each of the following is one step; ..
 abbrev pub counted : Log → Log
 counted log = record { records = log .records; steps = log .steps + 1 }
 
 abbrev pub noted : Record → Log → Log
 noted entry log = record { records = log .records ++ (entry ∷ []); steps = log .steps + 1 }
 
--- "skip: nothing changes."
+-- 5.6: Skip does nothing.
 unfoldable pub skipped : List Item → State → State
 skipped rest σ = record {
   pending = rest;
@@ -85,8 +87,8 @@ skipped rest σ = record {
   log = counted (σ .log);
 }
 
--- "assign: the variable takes the value. It is marked if the expression or the context is provisional, and unmarked
--- otherwise."
+-- 5.7: Assign gives its variable the expression's value, and marks it where the expression is guarded and unmarks it where
+-- not.
 unfoldable pub assigned : ℕ → Expr → List Item → State → State
 assigned v e rest σ = record {
   pending = rest;
@@ -96,7 +98,7 @@ assigned v e rest σ = record {
   log = counted (σ .log);
 }
 
--- a test was looked at: these items come next, and this set is pushed if the test or the context is provisional
+-- a test was looked at: these items come next, and this set is put on the pile where the test is guarded
 unfoldable pub opened : List Item → Expr → ℕ → State → State
 opened next test pushed σ = record {
   pending = next;
@@ -106,19 +108,21 @@ opened next test pushed σ = record {
   log = counted (σ .log);
 }
 
--- "if: the taken branch comes next, then a close. If the test or context is provisional, push the set of all variables
--- that the branch not taken may assign."
+-- 5.8: If makes the branch that the test chooses pending, and a close after it; where the test is guarded, what the other
+-- branch may assign is put on the pile.
 unfoldable pub branched : Bool → Expr → Stmt → Stmt → List Item → State → State
 branched true test then else rest σ = opened (statement then ∷ close ∷ rest) test (mayAssign else) σ
 branched false test then else rest σ = opened (statement else ∷ close ∷ rest) test (mayAssign then) σ
 
--- "while, test holds: body, close, then the same while. If the test or context is provisional, push the empty set."
--- "while, test fails: a close. If the test or context is provisional, push the set that the body may assign."
+-- 5.9: While makes its body, a close and itself again pending where the test holds; where the test is guarded, the empty
+-- set is put on the pile.
+-- 5.10: While makes a close pending where the test fails; where the test is guarded, what the body may assign is put on the
+-- pile.
 unfoldable pub turned : Bool → Expr → Stmt → List Item → State → State
 turned true test body rest σ = opened (statement body ∷ close ∷ statement (while test body) ∷ rest) test none σ
 turned false test body rest σ = opened (close ∷ rest) test (mayAssign body) σ
 
--- "close: if the pile is not empty, pop its top and add that set to the marks."
+-- 5.11: Close takes the topmost set off the pile, if there is one, and marks all its variables.
 unfoldable pub closedMarks : List ℕ → ℕ → ℕ
 closedMarks [] marks = marks
 closedMarks (top ∷ below) marks = union top marks
@@ -136,7 +140,8 @@ closed rest σ = record {
   log = counted (σ .log);
 }
 
--- a record of the channel and the expression's value
+-- 5.12: Output writes a record, ..
+-- 5.14: .. the output's channel, and its expression's value.
 unfoldable pub recorded : ℕ → Expr → List Item → State → State
 recorded channel e rest σ = record {
   pending = rest;
@@ -154,22 +159,24 @@ pub data Attempt : Type 0 where
   roomless : ℕ → Attempt
   taken : State → Attempt
 
--- "output on channel 1: a record. Output on channel 0: a record if expression and context are settled; otherwise the
--- monitor stops the run."
+-- 5.13: An output is denied where its channel is 0 and its expression guarded.
 abbrev pub denies : ℕ → Expr → ℕ → List ℕ → Bool
 denies channel e marks pile = eqb channel 0 && (provisional (level marks e) || context pile)
 
 unfoldable pub isDenied : ℕ → Expr → State → Bool
 isDenied channel e σ = denies channel e (σ .marks) (σ .pile)
 
--- "else a denied output gives 1; else an output without room gives 3; else the step is taken": whether the output is
--- denied, and whether there is room for one record more
+-- whether the output is denied, and whether there is room for one record more
+-- 5.12: Output writes a record, unless it is denied.
+-- 6.2: .. the step is an output that is denied, and the run is stopped; it is an output and the trace has no room for a
+-- further record, and the run ends without room; else the step is taken, ..
 unfoldable pub outputAttempt : Bool → Bool → ℕ → State → Attempt
 outputAttempt true room row next = denied row
 outputAttempt false false row next = roomless row
 outputAttempt false true row next = taken next
 
--- The next step where a statement is next. "A sequence takes no step of its own."
+-- The next step where a statement is next.
+-- 5.5: .. a sequence is none, it only puts its two statements in its place.
 unfoldable pub begin : Terms → Stmt → List Item → State → Attempt
 begin terms skip rest σ = taken (skipped rest σ)
 begin terms (assign v e) rest σ = taken (assigned v e rest σ)
@@ -196,19 +203,22 @@ pub record Outcome : Type 0 where
 abbrev pub outcome : Ended → State → Outcome
 outcome ended σ = record { ended = ended; state = σ }
 
--- "A finished run is verdict 0, also when its last step used the budget."
+-- 6.1: A run with nothing pending is done, also where its last step has used up the budget.
 unfoldable pub atBudget : List Item → Ended
 atBudget [] = Ended.Done
 atBudget (item ∷ rest) = Ended.Spent
 
--- "else the step is taken and counted": where the step is taken, onward goes on
+-- where the step is taken, onward goes on
+-- 6.2: .. else the step is taken, and counted.
 unfoldable pub follow : (State → Outcome) → State → Attempt → Outcome
 follow onward σ finished = outcome Ended.Done σ
 follow onward σ (denied row) = outcome (Ended.Stopped row) σ
 follow onward σ (roomless row) = outcome (Ended.NoRoom row) σ
 follow onward σ (taken next) = onward next
 
--- "Before each step of an unfinished run: budget used up gives verdict 2; else .."
+-- 6.2: With something pending, these are looked at before each step, in this order: the budget is used up, and the run is
+-- spent; the step is an output that is denied, and the run is stopped; it is an output and the trace has no room for a
+-- further record, and the run ends without room; else the step is taken, and counted.
 unfoldable pub run : Terms → ℕ → State → Outcome
 run terms zero σ = outcome (atBudget (σ .pending)) σ
 run terms (suc budget) σ = follow (run terms budget) σ (attempted terms σ)

@@ -1,5 +1,5 @@
--- What the rows of an accepted table are, fact by fact and by name. Nothing of document 01 is decided here: these are the
--- words in which laws and private contracts speak of a judged table.
+-- What the rows of an accepted table are, fact by fact and by name. No rule is decided here: these are the words in which
+-- laws and private contracts speak of a judged table.
 use Prim.Native.Nat.{ℕ, _+_, _≤_, _<_}
 use mathlib.Core.Bool.{true, false}
 use mathlib.Core.List.{List}

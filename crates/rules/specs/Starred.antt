@@ -1,4 +1,4 @@
--- Document 01, "Runs on both sides": the starred runs A to I, with everything that is expected of each.
+-- Section 12 of the rules: the runs A to I, with everything that is expected of each.
 use Prim.Native.Nat.{ℕ}
 use mathlib.Core.List.{List, [], _∷_}
 use Rattle.rules.specs.Answers.{verdict, pass, fail}
@@ -56,15 +56,16 @@ tableH =
 abbrev tableI : List Quad
 tableI = (8, 5, 0, 0) ∷ (5, 0, 0, 0) ∷ []
 
--- A. "With v0 = 0 and with v0 = 1: verdict 1, 8 steps, no record, marks 7."
+-- 12.2: A: `v2:=1; v1:=0; if v0 then v1:=1 else skip; if v1=0 then v2:=0 else skip; output settled v2` is stopped after 8
+-- steps with no record and marks 7, for v0 = 0 and for v0 = 1.
 abbrev runA : ℕ → List ℕ → Case
 runA v0 memory = recordless (usual tableA (v0 ∷ [])) (verdict 1 17) 8 memory 7 (fail 17) 7
 
--- B. "verdict 1, 0 steps"
+-- 12.3: B: `output settled v0 - v0` is stopped after 0 steps.
 abbrev runB : Case
 runB = recordless (usual tableB []) (verdict 1 3) 0 [] 1 (fail 3) 1
 
--- C. "verdict 0, 5 steps, marks 0"
+-- 12.4: C: `v0:=0; if v0 then v1:=1 else skip; output settled v1` is done after 5 steps with marks 0.
 abbrev runC : Case
 runC = record {
   given = usual tableC [];
@@ -75,7 +76,7 @@ runC = record {
   };
 }
 
--- D. "budget 0 gives verdict 2; budget 1 gives verdict 0, 1 step"
+-- 12.5: D: `skip` is spent with budget 0, and done after 1 step with budget 1.
 abbrev runD₀ : Case
 runD₀ =
     recordless
@@ -88,7 +89,7 @@ runD₁ =
     (record { table = tableD; memory = []; marks = usualMarks; budget = 1; trace = usualTrace })
     (verdict 0 0) 1 [] 1 pass 1
 
--- E. "v0 = 3: 11 steps done; with budget 10, verdict 2"
+-- 12.6: E: `while v0 do v0:=v0 - 1` with v0 = 3 is done after 11 steps, and spent with budget 10.
 abbrev runE : Case
 runE = recordless (usual tableE (3 ∷ [])) (verdict 0 0) 11 [] 1 pass 1
 
@@ -98,22 +99,22 @@ runE₁₀ =
     (record { table = tableE; memory = 3 ∷ []; marks = usualMarks; budget = 10; trace = usualTrace })
     (verdict 2 0) 10 [] 1 pass 1
 
--- F. "v0 = 0: 2 steps, marks 3, v1 unchanged"
+-- 12.7: F: `while v0 do v1:=1` with v0 = 0 is done after 2 steps with marks 3, and v1 is what it was.
 abbrev runF : Case
 runF = recordless (usual tableF []) (verdict 0 0) 2 [] 3 pass 3
 
--- G. "v0 = 1, verdict 1, 1 step; v0 = 0, verdict 0, 3 steps"
+-- 12.8: G: `if v0 then output settled 5 else skip` is stopped after 1 step with v0 = 1, and done after 3 with v0 = 0.
 abbrev runG₁ : Case
 runG₁ = recordless (usual tableG (1 ∷ [])) (verdict 1 2) 1 (1 ∷ []) 1 (fail 2) 1
 
 abbrev runG₀ : Case
 runG₀ = recordless (usual tableG []) (verdict 0 0) 3 [] 1 (fail 2) 1
 
--- H. "verdict 0, 4 steps; the level check fails it"
+-- 12.9: H: `v1:=1; if v1=0 then output settled v0 else skip` is done after 4 steps, and the level check fails it.
 abbrev runH : Case
 runH = recordless (usual tableH []) (verdict 0 0) 4 (0 ∷ 1 ∷ []) 1 (fail 6) 1
 
--- I. "output settled 5 with 1 trace word: verdict 3. B with no room: verdict 1."
+-- 12.10: I: `output settled 5` ends without room where the trace has 1 word; B is stopped with no room too.
 abbrev runI₁ : Case
 runI₁ =
     recordless

@@ -1,4 +1,4 @@
--- Document 01, "The table": the tree that a table's rows form, its height, nesting and loop nesting.
+-- Section 2 of the rules: the tree that a table's rows form, its height, nesting and loop nesting.
 use Prim.Native.Nat.{ℕ, zero, suc, _+_, _-_, max}
 use mathlib.Core.Bool.{cond}
 use mathlib.Core.List.{List}
@@ -23,8 +23,8 @@ pub data Stmt : Type 0 where
   while : Expr → Stmt → Stmt
   output : ℕ → Expr → ℕ → Stmt
 
--- "Operators: 0 sum, 1 difference, 2 product (all modulo 2^32), 3 whole quotient, .. 4 equal, 5 less".
 -- A number over 5 is read as less; refusal 2 is given for it.
+-- 2.7: The operators are 0 sum, 1 difference, 2 product, 3 quotient, 4 equal and 5 less.
 unfoldable pub operatorOf : ℕ → Operator
 operatorOf n =
     cond (eqb n 0) Operator.Sum
@@ -33,8 +33,9 @@ operatorOf n =
     (cond (eqb n 3) Operator.Quotient
     (cond (eqb n 4) Operator.Equal Operator.Less))))
 
--- "Rows form a tree, leaves first": what a row stands for, where child gives what its children stand for.
--- A row of the wrong sort is read as the constant 0 or as skip; refusal 2 or 3 is given for it.
+-- What a row stands for, where child gives what its children stand for. A row of the wrong sort is read as the constant 0
+-- or as skip; refusal 2 or 3 is given for it.
+-- 2.6: A row and its children, their children and so on are a tree, ..
 unfoldable pub exprNode : (ℕ → Expr) → Row → Kind → Expr
 exprNode child row Kind.Skip = constant 0
 exprNode child row Kind.Assign = constant 0
@@ -74,18 +75,18 @@ stmtIn (suc levels) rows i = stmtNode (exprAt rows) (stmtIn levels rows) i (rowA
 unfoldable pub stmtAt : List Row → ℕ → Stmt
 stmtAt rows i = stmtIn (suc i) rows i
 
--- "the last row is the whole recipe"
+-- 2.6: .. the last row's tree is the recipe.
 unfoldable pub recipe : List Row → Stmt
 recipe rows = stmtAt rows (length rows - 1)
 
--- "Height of a constant or variable is 1; of a binary row, 1 more than its taller side."
+-- 2.9: The height of a constant or a variable is 1, and that of a binary row is 1 more than the larger height of its sides.
 abbrev pub height : Expr → ℕ
 height (constant c) = 1
 height (variable v) = 1
 height (binary o a b) = max (height a) (height b) + 1
 
--- "Nesting of kinds 0, 1 and 5 is 0; a sequence takes the larger of its two; if and while add 1 to their largest
--- statement child."
+-- 2.10: The nesting of a skip, an assign or an output is 0, that of a sequence is the larger of its two, and that of an if
+-- or a while is 1 more than the largest of its statements.
 abbrev pub nesting : Stmt → ℕ
 nesting skip = 0
 nesting (assign v e) = 0
@@ -94,7 +95,7 @@ nesting (if e s t) = max (nesting s) (nesting t) + 1
 nesting (while e s) = nesting s + 1
 nesting (output c e row) = 0
 
--- "Loop nesting is counted alike with only while adding 1."
+-- 2.11: Loop nesting is counted as nesting is, but an if adds nothing.
 abbrev pub loopNesting : Stmt → ℕ
 loopNesting skip = 0
 loopNesting (assign v e) = 0

@@ -1,4 +1,4 @@
--- Document 01: "The unwatched language has the same steps without marks, pile or denial." It knows no room either.
+-- 7.1: The unwatched language has the same steps, but no marks, no pile, no denial and no room that could be lacking.
 use Prim.Native.Nat.{ℕ, zero, suc, _+_}
 use mathlib.Core.Bool.{Bool, true, false, cond}
 use mathlib.Core.List.{List, [], _∷_, _++_}

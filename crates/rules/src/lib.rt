@@ -1,21 +1,22 @@
 // The types that the rules and the code share: kinds, roles of a word, rows, memory, and the answers.
 
-// "Values and table words are 32-bit unsigned": there are 2^32 of them.
+// how many values there are
+// 1.1: A value is a whole number from 0 to 4,294,967,295, and so is a word of a table: 32 bits.
 pub const WORD_VALUES: u64 = 4294967296;
 
-// "Memory has 32 variables, v0 to v31."
+// 1.2: There are 32 variables, v0 to v31, and a memory holds a value for each of them.
 pub const VARIABLES: usize = 32;
 
-// "A row is four words: kind, p, q, r."
+// 2.1: A table is a list of words, and each four of them are a row: its kind, and then p, q and r.
 pub const ROW_WORDS: usize = 4;
 
-// "over 512 rows"
+// 4.1: Refusal 1, at 0: .. there are more than 512.
 pub const MOST_ROWS: usize = 512;
 
-// "nesting over 8"
+// 4.5: Refusal 5, at the row: .. its nesting over 8 ..
 pub const MOST_NESTING: u8 = 8;
 
-// "A mark set is 32 bits; bit i set means that vi is provisional."
+// 1.3: A mark set is a number of 32 bits: bit i is 1 where vi is marked, that is provisional, and 0 where vi is settled.
 pub type Marks = u32;
 
 // What a row is, by its first word. Unknown is any number that the table of kinds does not have.
@@ -32,7 +33,8 @@ pub enum Kind {
     Unknown,
 }
 
-// "Which word is a variable, a row or a constant is fixed for each kind": what a word p, q or r is.
+// What a word p, q or r is.
+// 2.3: What p, q and r are is fixed by the kind; where nothing stands the word has no name.
 pub enum Role {
     Unnamed,
     Variable,
@@ -59,7 +61,7 @@ pub enum Operator {
     Less,
 }
 
-// "A row is four words: kind, p, q, r."
+// 2.1: A table is a list of words, and each four of them are a row: its kind, and then p, q and r.
 pub struct Row {
     pub kind: Kind,
     pub p: u32,
@@ -74,7 +76,7 @@ pub struct Depth {
     pub loops: u8,
 }
 
-// "carried with the run as a fixed set of 32 numbers"
+// 1.2: .. a memory holds a value for each of them.
 pub struct Memory {
     pub words: [u32; VARIABLES],
 }

@@ -62,8 +62,10 @@ CallEnds =
     (i : Inputs) (a : Answer) (after : List ℕ) → RunAnswers i a after
     → (a .steps ≤ i .budget) × ((number row : ℕ) → a .ended ≡ Ended.Refused number row → Returned i a after)
 
--- "The lowest number from 1 to 6 that applies anywhere is given, with its lowest row": a call of the run is refused where a call
--- of the judge refuses its table, with the same number and row; else where the trace is oversized; and nowhere else.
+-- A call of the run is refused where a call of the judge refuses its table, with the same number and row; else where the
+-- trace is oversized; and nowhere else.
+-- 4.7: Of the refusals 1 to 6 that apply anywhere, the one with the lowest number is given, at the lowest row at which it
+-- applies; where none applies the table is accepted.
 pub record RefusedAsJudged (i : Inputs) (judged : Judged) (a : Answer) : Type 0 where
   pub bad-table : (number row : ℕ) → judged ≡ Judged.Refused number row → a .ended ≡ Ended.Refused number row
   pub oversized : judged ≡ Judged.Accepted → mostTraceWords < length (i .trace) → a .ended ≡ Ended.Refused 6 0
@@ -87,8 +89,9 @@ CheckIsLeast =
     × (check .marks ≡ result (recipe (rowsOf words)) choice false marks)
     × Names (check .checked) (failing (recipe (rowsOf words)) choice false marks)
 
--- "The level check can meet 1 to 5; it then returns its marks as given": it is refused exactly where a call of the judge is,
--- with the same number and row.
+-- It is refused exactly where a call of the judge is, with the same number and row.
+-- 4.9: The judge and the level check are lent no trace and so meet 1 to 5 alone; a refused check answers the mark set that
+-- it was given.
 abbrev pub CheckIsRefusedAsJudged : Type 0
 CheckIsRefusedAsJudged =
     (words : List ℕ) (marks : ℕ) (judged : Judged) (check : Advice) → JudgeAnswers words judged → CheckAnswers words marks check

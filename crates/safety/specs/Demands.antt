@@ -1,4 +1,5 @@
--- The demands, each under its sentence of the request. What is proved of each stands in proofs/, under the same name.
+-- Section 10 of the rules: the demands, each under its sentence. What is proved of each stands in proofs/, under the same
+-- name.
 use Prim.Native.Nat.{ℕ, _^_, _≤_, _<_}
 use mathlib.Core.Bool.{true, false}
 use mathlib.Core.List.{List, []}
@@ -23,12 +24,12 @@ use Rattle.safety.specs.Stations.{settledRecords, Begins, Agree, Among}
 
 -- ---- Demand 1
 
--- "Every table of words, start memory, mark set, step budget and trace room gets one answer": the answer is a function of
--- them. ".. and a run ends within its budget."
+-- The answer is a function of what is given.
+-- 10.1: Whatever is given there is one answer, and no run takes more steps than its budget.
 abbrev pub EndsWithinBudget : Type 0
 EndsWithinBudget = (i : Inputs) → answer i .steps ≤ i .budget
 
--- "A bad table or an oversized trace is refused by number; memory, marks and trace then stand as they were lent."
+-- 10.2: Where a run is refused, memory, marks and trace are as they were lent.
 pub record Untouched (i : Inputs) (a : Whole) : Type 0 where
   pub no-step : a .steps ≡ 0
   pub no-record : a .records ≡ []
@@ -39,15 +40,18 @@ pub record Untouched (i : Inputs) (a : Whole) : Type 0 where
 abbrev pub RefusalsTouchNothing : Type 0
 RefusalsTouchNothing = (i : Inputs) (number row : ℕ) → answer i .said ≡ refused number row → Untouched i (answer i)
 
--- "A finished run is verdict 0, also when its last step used the budget": done exactly when nothing is pending.
+-- Done exactly when nothing is pending.
+-- 6.1: A run with nothing pending is done, also where its last step has used up the budget.
 abbrev pub DoneWhenNothingIsPending : Type 0
 DoneWhenNothingIsPending =
     (terms : Terms) (budget : ℕ) (σ : State) → (run terms budget σ .ended ≡ Ended.Done) ↔ (run terms budget σ .state .pending ≡ [])
 
 -- ---- Demand 2
 
--- "The level check gives exactly the least solution of its rules": there is a choice of one set for each loop that solves
--- the rules and is contained in every other that does; the final marks are its result, and the failing rows its own.
+-- There is a choice of one set for each loop that solves the rules and is contained in every other that does; the final
+-- marks are its result, and the failing rows its own.
+-- 10.4: The level check answers by the least solution of its rules: one set for each loop, contained in that of every other
+-- solution.
 pub record Least (s : Stmt) (marks : ℕ) (choice : Choice s) : Type 0 where
   pub solves : Solves s choice false marks
   pub within : (other : Choice s) → Solves s other false marks → Within s choice other
@@ -61,7 +65,8 @@ LevelCheckIsLeast =
     × (advice words marks .marks ≡ result (recipe (rowsOf words)) choice false marks)
     × (advice words marks .said ≡ saidOfCheck (checkedOf (failing (recipe (rowsOf words)) choice false marks)))
 
--- "pass, or fail with the lowest failing row", where these are the failing rows; and nothing else
+-- where these are the failing rows; and nothing else
+-- 8.7: The check passes where no output fails, and else fails at the lowest row that does; ..
 pub record Names (checked : Checked) (rows : List ℕ) : Type 0 where
   pub passes : (checked ≡ Checked.Pass) ↔ (rows ≡ [])
   pub fails : (row : ℕ) → checked ≡ Checked.Fail row → Among row rows × ((other : ℕ) → Among other rows → row ≤ other)
@@ -70,7 +75,7 @@ pub record Names (checked : Checked) (rows : List ℕ) : Type 0 where
 abbrev pub LowestIsNamed : Type 0
 LowestIsNamed = (rows : List ℕ) → Names (checkedOf rows) rows
 
--- "A run that ends done has the records and memory of the unwatched language", and its steps.
+-- 10.5: A run that ends done has the records, the memory and the steps of the unwatched language.
 pub record SameRun (a : Whole) (plain : PlainOutcome) : Type 0 where
   pub done : plain .finished ≡ true
   pub memory : a .memory ≡ plain .state .memory
@@ -86,7 +91,8 @@ DoneIsUnwatched = (i : Inputs) → answer i .said ≡ verdict 0 0 → SameRun (a
 
 -- ---- Demand 3
 
--- "Take one accepted recipe, one mark set and two memories equal in every settled variable." Budget and trace are each run's own.
+-- 10.6: Two runs of one accepted recipe with one mark set, from memories that are equal in every settled variable, are
+-- compared; budgets and traces are each run's own.
 pub record TwoMemories (i j : Inputs) : Type 0 where
   pub same-words : i .words ≡ j .words
   pub accepted : judge (i .words) ≡ Judged.Accepted
@@ -99,15 +105,15 @@ pub record TwoMemories (i j : Inputs) : Type 0 where
 abbrev pub seen : Whole → List Record
 seen a = settledRecords (a .records)
 
--- "With any budgets and rooms, one run's settled records begin the other's."
+-- 10.7: What the stations read of one of the two begins what they read of the other.
 abbrev pub EitherBegins : Whole → Whole → Type 0
 EitherBegins a b = Begins (seen a) (seen b) ⊎ Begins (seen b) (seen a)
 
 abbrev pub OneBeginsTheOther : Type 0
 OneBeginsTheOther = (i j : Inputs) → TwoMemories i j → EitherBegins (answer i) (answer j)
 
--- "If both end done, those records are equal, so are the final marks, and every variable left settled holds one value in
--- both."
+-- 10.8: Where both end done, the stations read the same of both, the final marks are the same, and every variable that they
+-- leave settled has one value in both.
 pub record SameToTheStations (a b : Whole) : Type 0 where
   pub records : seen a ≡ seen b
   pub marks : a .marks ≡ b .marks
@@ -118,7 +124,7 @@ BothDoneAreTheSame =
     (i j : Inputs) → TwoMemories i j → answer i .said ≡ verdict 0 0 → answer j .said ≡ verdict 0 0
     → SameToTheStations (answer i) (answer j)
 
--- "A recipe passed by the level check for that mark set is never stopped."
+-- 10.9: A run is never stopped where the level check passes its recipe with its mark set.
 abbrev pub PassedIsNeverStopped : Type 0
 PassedIsNeverStopped =
     (i : Inputs) (row : ℕ) → advice (i .words) (i .marks) .said ≡ pass → answer i .said ≡ verdict 1 row → ⊥

@@ -10,7 +10,9 @@ use Rattle.rules.specs.Limits.{width}
 use Rattle.rules.specs.Marks.{has}
 use Rattle.rules.specs.Running.{Record}
 
--- "Settled records, in order, are what the stations read."
+-- 2.8: Channel 0 is the settled one, which the stations read, and channel 1 the provisional one.
+-- 6.9: The stations read the records of channel 0, in their order; everything else is for the desk alone, and may depend on
+-- provisional values.
 abbrev pub settledRecords : List Record → List Record
 settledRecords [] = []
 settledRecords (r ∷ rs) = cond (eqb (r .channel) 0) (r ∷ settledRecords rs) (settledRecords rs)

@@ -130,15 +130,18 @@ module _ (rows : List Row) (e p : List ℕ) (h : Held) where
   abbrev pub below : List Item
   below = itemsOf rows e (h .pending - 1)
 
-  -- "the taken branch comes next, then a close", with the set of the branch not taken
+  -- the branch that the test chooses, with the set of the other
+  -- 5.8: If makes the branch that the test chooses pending, and a close after it; ..
   abbrev pub BranchOpened : ℕ → ℕ → ℕ → List ℕ → List ℕ → Held → Type 0
   BranchOpened level chosen other = Opened rows p h (statement (stmtAt rows chosen) ∷ close ∷ below) level (mayAssign (stmtAt rows other))
 
-  -- "body, close, then the same while", with the empty set, the number 0
+  -- with the empty set, the number 0
+  -- 5.9: While makes its body, a close and itself again pending where the test holds; ..
   abbrev pub LoopTurned : ℕ → ℕ → List ℕ → List ℕ → Held → Type 0
   LoopTurned level body = Opened rows p h (statement (stmtAt rows body) ∷ close ∷ itemsOf rows e (h .pending)) level 0
 
-  -- "test fails: a close", with the set of the body
+  -- with the set of the body
+  -- 5.10: While makes a close pending where the test fails; ..
   abbrev pub LoopLeft : ℕ → ℕ → List ℕ → List ℕ → Held → Type 0
   LoopLeft level body = Opened rows p h (close ∷ below) level (mayAssign (stmtAt rows body))
 
@@ -176,7 +179,7 @@ guards level height = provisional level || not (eqb height 0)
 abbrev pub passed : Held → ℕ → Held
 passed h marks = record { pending = h .pending - 1; pile = h .pile; records = h .records; marks = marks }
 
--- "if the pile is not empty, pop its top and add that set to the marks"
+-- 5.11: Close takes the topmost set off the pile, if there is one, and marks all its variables.
 abbrev pub closedHeld : List ℕ → Held → Held
 closedHeld p h =
     cond (eqb (h .pile) 0) (passed h (h .marks))

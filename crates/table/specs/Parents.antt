@@ -6,7 +6,7 @@ use lib.ListN.{length, getD}
 use Rattle.rules.specs.Limits.{mostRows}
 use Rattle.rules.specs.Judging.{places}
 
--- two counts that say the same of "no row or more than one place"
+-- two counts that say the same of whether a row stands at exactly one place
 abbrev pub SameCount : ℕ → ℕ → Type 0
 SameCount a b = min 2 a ≡ min 2 b
 

@@ -14,7 +14,7 @@ ghost use Rattle.rules.specs.Rows.{rowsOf};
 ghost use Rattle.rules.specs.OnePass.{Within, depthBy, overLimits};
 ghost use Rattle.table.specs.Refused.{refusedWords, refusedChildren, refusedDepths};
 
-// "expression height over 16 .. or loop nesting over 3"
+// 4.5: Refusal 5, at the row: its height is over 16, .. or its loop nesting over 3.
 const MOST_HEIGHT: u8 = 16;
 
 const MOST_LOOP_NESTING: u8 = 3;

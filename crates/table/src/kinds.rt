@@ -5,7 +5,8 @@ use rules::Roles;
 ghost use mathlib.Core.Path.{_≡_};
 ghost use Rattle.rules.specs.Rows.{rolesOf, isStatement, isExpression};
 
-// "Which word is a variable, a row or a constant is fixed for each kind": by the kind's place in `Kind`.
+// By the kind's place in `Kind`.
+// 2.3: What p, q and r are is fixed by the kind; ..
 const ROLES: [Roles; 10] = [
     // skip
     Roles {

@@ -12,7 +12,8 @@ mod kinds;
 mod parents;
 mod words;
 
-// Whether refusal 1 applies: "word count not a multiple of 4, or 0 rows, or over 512 rows".
+// Whether refusal 1 applies.
+// 4.1: Refusal 1, at 0: the number of words is not a multiple of 4, or there is no row, or there are more than 512.
 fn wrong_count(table: &[u32]) -> bool
     ensures { λ r. ⌜ r ≡ wrongCount (now (table .entry)) ⌝ }
 {

@@ -1,11 +1,11 @@
-//! The safe functions on cases that document 01 states.
+//! The safe functions on worked runs of docs/RULES.md.
 
 use buzorinde::{
     check, judge, run, Advice, Answer, Checked, Ended, Judged, Record, PROVISIONAL, SETTLED,
     VARIABLES,
 };
 
-/// The whole case of document 01: v0 out on channel 0, then v1 out on channel 1.
+/// The whole case, 12.13: v0 out on channel 0, then v1 out on channel 1.
 const WHOLE: [u32; 20] = [9, 0, 0, 0, 5, 0, 0, 0, 9, 1, 0, 0, 5, 1, 2, 0, 2, 1, 3, 0];
 
 /// Run B: output settled v0 - v0.

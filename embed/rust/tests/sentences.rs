@@ -48,7 +48,7 @@ fn c_and_rust_say_the_same() {
     assert_eq!(said.concat(), include_str!("../../sentences.expected"));
 }
 
-/// Document 01's whole case, its run B (output settled v0 - v0), and a table of no rows.
+/// The whole case of docs/RULES.md, its run B (output settled v0 - v0), and a table of no rows.
 const WHOLE: [u32; 20] = [9, 0, 0, 0, 5, 0, 0, 0, 9, 1, 0, 0, 5, 1, 2, 0, 2, 1, 3, 0];
 const B: [u32; 16] = [9, 0, 0, 0, 9, 0, 0, 0, 10, 1, 0, 1, 5, 0, 2, 0];
 const EMPTY: [u32; 0] = [];

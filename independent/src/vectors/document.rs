@@ -1,4 +1,4 @@
-//! Vectors of the document's whole case, of A to I and K, and of L to P.
+//! Vectors of the request's whole case, of A to I and K, and of L to P.
 
 use super::{judge_case, levels_case, Setting, Vector, WHOLE_CASE};
 use crate::recipes::*;

@@ -1,4 +1,4 @@
-//! The level check: values that follow from the document, and the two methods together.
+//! The level check: values that follow from the request, and the two methods together.
 
 use super::*;
 use independent::levels::{levels, levels_by, Method, Outcome};

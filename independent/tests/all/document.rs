@@ -1,4 +1,4 @@
-//! The values that document 01 states for its whole case and for A to K; then L to P.
+//! The values that the request states for its whole case and for A to K; then L to P.
 
 use super::*;
 use independent::job::report;
@@ -17,7 +17,7 @@ fn whole_case() {
     assert_eq!(report(job.as_bytes()), expected);
 }
 
-/// The whole case again, from its recipe: the layout is the document's.
+/// The whole case again, from its recipe: the layout is the request's.
 #[test]
 fn whole_case_laid_out() {
     let recipe = sequence(output(0, variable(0)), output(1, variable(1)));

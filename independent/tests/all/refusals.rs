@@ -1,4 +1,4 @@
-//! The refusals of tables: the document's table of numbers, row by row, and their order.
+//! The refusals of tables: the request's table of numbers, row by row, and their order.
 
 use super::*;
 use independent::levels::{levels, Outcome};

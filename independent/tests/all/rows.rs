@@ -1,4 +1,4 @@
-//! Single rows: values that follow from the document's sentences, and what runs make of them.
+//! Single rows: values that follow from the request's sentences, and what runs make of them.
 
 use super::*;
 use independent::random::Random;

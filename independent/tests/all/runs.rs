@@ -1,4 +1,4 @@
-//! Runs whose values follow from the document's sentences one by one.
+//! Runs whose values follow from the request's sentences one by one.
 
 use super::*;
 use independent::recipes::*;
