@@ -3,14 +3,20 @@ use Prim.Native.Nat.{ℕ, zero, suc, _+_, _-_, _<_, _≤_, min}
 use native.Mathlib.Omega.{arith}
 use mathlib.Core.Bool.{Bool, true, false, cond, _||_, _&&_}
 use mathlib.Core.List.{List, [], _∷_, _++_, append-nil}
+use mathlib.Core.Logic.{inl, inr}
 use mathlib.Core.Path.{_≡_, refl, sym, ap, ap₂, _∙_, subst}
+use denote.Enum.Declared.{tagOf}
+use types.Run.{OneOf}
 use lib.Dec.{eqb}
 use borrow.Author.Tests.{eq-eqb, ne-eqb}
 use Rattle.rules.specs.declared.Checked.{Checked}
+use Rattle.rules.specs.declared.Kind.{Kind}
 use Rattle.rules.specs.Marks.{put, union}
-use Rattle.rules.specs.Trees.{Expr, Stmt, skip, assign, sequence, if, output}
+use Rattle.rules.specs.Trees.{Expr, Stmt, assign, if, output}
 use Rattle.rules.specs.LevelRules.{under}
 use Rattle.rules.specs.LevelCheck.{Walked, walk, rounds, lowestOf, checkedOf}
+use Rattle.rules.proofs.Kind as kind-type
+use Rattle.rules.proofs.RowLaws.{kind-arm}
 use Rattle.rules.proofs.LevelLaws.{rounds-over, rounds-rest, rounds-on}
 use Rattle.levels.specs.declared.walk.Found.{Found}
 use Rattle.levels.specs.Found.{lowerOf, lowestIn, foundOf, failedAt, checkedAt}
@@ -27,7 +33,7 @@ lowest-both : (a b : ℕ) (rows others : List ℕ) → lowestOf a (rows ++ (b �
 lowest-both a b [] others = lowest-from a b others
 lowest-both a b (row ∷ rows) others = lowest-both (min a row) b rows others
 
-lowest-append : (rows others : List ℕ) → lowestIn (rows ++ others) ≡ lowerOf (lowestIn rows) (lowestIn others)
+pub lowest-append : (rows others : List ℕ) → lowestIn (rows ++ others) ≡ lowerOf (lowestIn rows) (lowestIn others)
 lowest-append [] others = refl
 lowest-append (a ∷ rows) [] = ap (λ (l : List ℕ). suc (lowestOf a l)) (append-nil rows)
 lowest-append (a ∷ rows) (b ∷ others) = ap suc (lowest-both a b rows others)
@@ -71,7 +77,15 @@ module _ (channel row : ℕ) (guarded : Bool) where
 
 -- ---- each kind of statement
 
-abbrev pair : ℕ → ℕ → Found
+-- a row that is no assignment, if, while or output, and no sequence either, is at a place where rows stand for skip
+pub skip-left :
+    (kind : Kind) → OneOf (0 ∷ 2 ∷ 6 ∷ 7 ∷ 8 ∷ 9 ∷ []) (tagOf kind-type.the-type kind) → (kind ≡ Kind.Sequence → ⊥)
+    → OneOf (0 ∷ 6 ∷ 7 ∷ 8 ∷ 9 ∷ []) (tagOf kind-type.the-type kind)
+skip-left kind (inl here) other = inl here
+skip-left kind (inr (inl here)) other = absurd (other (kind-arm {f = λ k. k} {ks = 2 ∷ []} (record { each = refl }) kind here))
+skip-left kind (inr (inr among)) other = inr among
+
+abbrev pub pair : ℕ → ℕ → Found
 pair marks lowest = record { marks = marks; lowest = lowest }
 
 module _ (context : Bool) (marks : ℕ) where
@@ -79,17 +93,6 @@ module _ (context : Bool) (marks : ℕ) where
       (v : ℕ) (e : Expr) {after : ℕ} → after ≡ put v (under e context marks) marks
       → record { marks = after; lowest = 0 } ≡ foundOf (walk (assign v e) context marks)
   found-assign v e h = ap (λ (m : ℕ). pair m 0) h
-
-  pub found-sequence :
-      (s t : Stmt) {first second : Found} {lowest : ℕ} → first ≡ foundOf (walk s context marks)
-      → second ≡ foundOf (walk t context (first .marks)) → lowest ≡ lowerOf (first .lowest) (second .lowest)
-      → record { marks = second .marks; lowest = lowest } ≡ foundOf (walk (sequence s t) context marks)
-  found-sequence s t {first} {second} {lowest} ef es el =
-      let after : second ≡ foundOf (walk t context (walk s context marks .marks)) =
-      es ∙ ap (λ (f : Found). foundOf (walk t context (f .marks))) ef in
-      ap₂ pair (ap (λ (f : Found). f .marks) after)
-      (el ∙ ap₂ (λ (f g : Found). lowerOf (f .lowest) (g .lowest)) ef after
-      ∙ sym (lowest-append (walk s context marks .failing) (walk t context (walk s context marks .marks) .failing)))
 
   pub found-if :
       (e : Expr) (s t : Stmt) {inside : Bool} {then other : Found} {after lowest : ℕ} → inside ≡ under e context marks

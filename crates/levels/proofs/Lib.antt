@@ -1,3 +1,4 @@
 -- The laws of this crate.
 mod FoundLaws
+mod PendingLaws
 mod AdviceLaws
