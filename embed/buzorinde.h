@@ -1,4 +1,7 @@
-/* Recipe runs under watch, for C and C++: the functions of the proved static library (`rt staticlib embed` writes it).
+/* Recipe runs under watch, for C and C++: the functions of the proved static library. `embed/build` makes the library and puts it
+ * beside a copy of this header, in `target/library`; a program is linked with
+ *
+ *     cc program.c -Itarget/library -Ltarget/library -lbuzorinde
  *
  * A slice is a pointer to 32-bit words and how many there are. Every pointer is valid for its words, aligned and not null,
  * even where it has 0 words, and a slice that is written to overlaps no other one of the same call.
@@ -10,8 +13,9 @@
  * Of every function:
  * - It is reentrant and has no state: calls that lend different buffers may run at the same time, and a table may be lent to
  *   many calls at once.
- * - It reads and writes nothing but what it is lent and less than 32 KiB of the caller's stack. It allocates nothing, has no
- *   globals, makes no system call, and calls nothing outside the library but memcpy and memset.
+ * - It reads and writes nothing but what it is lent and at most BUZORINDE_JUDGE_STACK, BUZORINDE_CHECK_STACK or BUZORINDE_RUN_STACK
+ *   bytes of the caller's stack. It allocates nothing, has no globals, makes no system call, and calls nothing outside the library
+ *   but memcpy and memset.
  * - It is for x86-64 with the System V calling convention, and a word is an unsigned number in the machine's byte order.
  * - It always returns, and cannot be cancelled before it does. A run takes at most as many steps as its budget: on a small virtual
  *   machine about 100,000,000 a second where expressions are small, and about 1,000,000 a second where expressions have hundreds of
@@ -47,6 +51,14 @@ enum {
     BUZORINDE_JUDGE_WORDS = 3,
     BUZORINDE_CHECK_WORDS = 4,
     BUZORINDE_RUN_WORDS = 6
+};
+
+/* The most bytes of the caller's stack that each function takes, on any table: measured, not proved. Where memcpy and memset are
+ * bound by the call that needs them first (a dynamic program that is not linked with -z now), that call takes about 4 KiB more. */
+enum {
+    BUZORINDE_JUDGE_STACK = 2048,
+    BUZORINDE_CHECK_STACK = 32768,
+    BUZORINDE_RUN_STACK = 16384
 };
 
 /* The limits. What is beyond them is refused; any memory, mark set and budget is allowed. */
