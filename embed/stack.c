@@ -15,7 +15,7 @@ enum {
     PAINT = 0xA5,
     GUARD = 4096,
     /* what stands on a lent stack before the call: the frames of `enter` and of what calls the function */
-    OWN = 256,
+    OWN = 64,
     LENT = 2 * GUARD * ((BUZORINDE_JUDGE_STACK + BUZORINDE_CHECK_STACK + BUZORINDE_RUN_STACK) / GUARD + 1)
 };
 

@@ -2,7 +2,7 @@
 //!
 //! Each function here lends buffers of the length that the library asks for, so that no call is refused for a short one, and
 //! turns the answer's words into the enum that they stand for. What the header `buzorinde.h` says of every function of the library
-//! is true of these too.
+//! is true of these too, but for the little stack that they take themselves.
 
 mod numbers;
 
