@@ -57,7 +57,7 @@ enum {
  * bound by the call that needs them first (a dynamic program that is not linked with -z now), that call takes about 4 KiB more. */
 enum {
     BUZORINDE_JUDGE_STACK = 2048,
-    BUZORINDE_CHECK_STACK = 32768,
+    BUZORINDE_CHECK_STACK = 4096,
     BUZORINDE_RUN_STACK = 16384
 };
 
