@@ -5,7 +5,6 @@ use mathlib.Core.List.{List, [], _∷_, _++_}
 use lib.ListN.{length, take, drop, replicate}
 use Rattle.rules.specs.Limits.{width, rowWords}
 use Rattle.job.specs.declared.Key.{Key}
-use Rattle.job.specs.declared.Field.{Field}
 use Rattle.job.specs.declared.Line.{Line}
 use Rattle.job.specs.declared.RowLine.{RowLine}
 use Rattle.job.specs.declared.Lines.{Lines}
@@ -13,16 +12,11 @@ use Rattle.job.specs.declared.Read.{Read}
 use Rattle.job.specs.declared.Reading.{Reading}
 use Rattle.job.specs.Limits.{tableWords}
 use Rattle.job.specs.Jobs.{Told, told, untold}
-use Rattle.lines.specs.Numbers.{Number, noNumber, number}
 use Rattle.lines.specs.Lines as spec
 
 abbrev pub keySaid : List ℕ → Key → spec.After
 keySaid text Key.Absent = spec.absent
 keySaid text (Key.Next next) = spec.after (drop next text)
-
-abbrev pub fieldSaid : List ℕ → Field → Number
-fieldSaid text Field.Nothing = noNumber
-fieldSaid text (Field.Number value next) = number value (drop next text)
 
 abbrev pub lineSaid : List ℕ → Line → spec.Line
 lineSaid text (Line.Number value next) = spec.line (value ∷ []) (drop next text)

@@ -1,28 +1,27 @@
 // Reads a job. Every function here takes the whole text and a place in it.
+use numbers::Field;
+use numbers::MOST_WORD;
+use numbers::number_at;
 use rules::MOST_ROWS;
 use rules::Marks;
 use rules::Memory;
 use rules::ROW_WORDS;
 use rules::VARIABLES;
-use rules::WORD_VALUES;
 ghost use mathlib.Core.Path.{_≡_};
-ghost use mathlib.Core.Bool.{true};
 ghost use mathlib.Core.List.{[], _∷_};
-ghost use Prim.Native.Nat.{_+_, _-_, _*_, _≤_, _<_, min};
+ghost use Prim.Native.Nat.{_+_, _*_, _≤_};
 ghost use lib.ListN.{length, take, drop};
 ghost use lib.Seq.{sets};
 ghost use Rattle.rules.specs.Limits.{width, rowWords, mostRows};
 ghost use Rattle.lines.specs.Limits.{mostWord};
+ghost use Rattle.numbers.specs.Read.{fieldSaid};
 ghost use Rattle.job.specs.Limits.{tableWords};
-ghost use Rattle.lines.specs.Numbers.{zeroByte, beyond, isDigit, digitsOn, numberAt};
 ghost use Rattle.lines.specs.Lines.{afterKey, field, fields, ended, lineOf, linesOf};
 ghost use Rattle.job.specs.Jobs.{untold, firstInput, numberLine, numberLines, inputsOf, rowLine, readTable, readInputs, readJob};
-ghost use Rattle.job.specs.Read.{keySaid, fieldSaid, lineSaid, rowSaid, LinesRead, filled, saidOfReading, reading};
+ghost use Rattle.job.specs.Read.{keySaid, lineSaid, rowSaid, LinesRead, filled, saidOfReading, reading};
 
 // The numbers of a job, as `specs/Limits` has them.
 pub const MOST_BYTES: usize = 32768;
-
-const MOST_WORD: u64 = WORD_VALUES - 1;
 
 pub const MOST_ROOM: u64 = 8192;
 
@@ -54,12 +53,6 @@ const TOO_LONG: u32 = 9;
 enum Key {
     Absent,
     Next(usize),
-}
-
-// The number of a field, and the place after it; a number over 4,294,967,295 is 4,294,967,296.
-enum Field {
-    Nothing,
-    Number { value: u64, next: usize },
 }
 
 // The number of a line of one number, and the place after the line; or the line's refusal.
@@ -105,65 +98,6 @@ pub struct Reading {
     pub read: Read,
     pub memory: Memory,
     pub table: [u32; TABLE_WORDS],
-}
-
-// Whether a byte is a digit.
-fn is_digit(byte: u8) -> bool
-    ensures { λ r. ⌜ r ≡ isDigit byte ⌝ }
-{
-    b'0' <= byte && byte <= b'9'
-}
-
-// The value of some digits with one digit more.
-fn grown(value: u64, byte: u8) -> u64
-    requires { ⌜ (value ≤ beyond) × (isDigit byte ≡ true) ⌝ }
-    ensures { λ r. ⌜ r ≡ min (value * 10 + (byte - zeroByte)) beyond ⌝ }
-{
-    let more = value * 10 + (byte - b'0') as u64;
-    if more <= MOST_WORD {
-        more
-    } else {
-        MOST_WORD + 1
-    }
-}
-
-// The number whose first digits came to `first` and whose other digits start at `from`.
-fn digits_on(text: &[u8], from: usize, first: u64) -> Field
-    requires { ⌜ first ≤ beyond ⌝ }
-    ensures { λ r. ⌜ fieldSaid (now (text .entry)) r ≡ digitsOn (drop from (now (text .entry))) first ⌝ }
-{
-    let mut value = first;
-    let mut i = from;
-    while i < text.len() {
-        let byte = text[i];
-        if is_digit(byte) {
-            value = grown(value, byte);
-            i += 1;
-        } else {
-            return Field::Number { value, next: i };
-        }
-    }
-    Field::Number { value, next: i }
-}
-
-// The number at a place.
-fn number_at(text: &[u8], at: usize) -> Field
-    ensures { λ r. ⌜ fieldSaid (now (text .entry)) r ≡ numberAt (drop at (now (text .entry))) ⌝ }
-{
-    if text.len() <= at {
-        return Field::Nothing;
-    }
-    let byte = text[at];
-    if byte == b'0' {
-        return Field::Number {
-            value: 0,
-            next: at + 1,
-        };
-    }
-    if is_digit(byte) {
-        return digits_on(text, at + 1, grown(0, byte));
-    }
-    Field::Nothing
 }
 
 // The place after a key that stands at a place.

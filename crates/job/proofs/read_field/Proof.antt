@@ -34,7 +34,7 @@ returns-2 c =
     let at-after-key = at-found .before .before in
     let start = at-after-key .before .before .before in
     let args = start .args in
-    c .number-at .ensures
+    c .number-at .ensures .0
     ∙ field-after (now (args .key)) (drop (args .at) (now (args .text))) (drop (at-found .found .given .0 .0) (now (args .text)))
     (ap (keySaid (now (args .text))) (sym (at-found .found .given .1)) ∙ at-after-key .after-key .ensures)
 

@@ -2,7 +2,7 @@
 use mathlib.Core.Path.{sym, ap, _∙_}
 use lib.ListN.{drop}
 use denote.Ref.{now}
-use Rattle.job.specs.Read.{fieldSaid}
+use Rattle.numbers.specs.Read.{fieldSaid}
 use Rattle.lines.proofs.LineLaws.{line-none, line-number}
 use borrow.Author.Needs.{needs}
 use Rattle.job.proofs.read_line.Statement.{statement}

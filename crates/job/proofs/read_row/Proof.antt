@@ -6,7 +6,7 @@ use denote.Ref.{now}
 use Rattle.lines.specs.Limits.{mostWord}
 use Rattle.lines.specs.Lines.{rowKey, comma, rowKeys}
 use Rattle.job.specs.Jobs.{rowLine}
-use Rattle.job.specs.Read.{fieldSaid}
+use Rattle.numbers.specs.Read.{fieldSaid}
 use Rattle.lines.proofs.LineLaws.{fields-stop, fields-broken, fields-none, fields-more, line-stop, line-go}
 use borrow.Author.Needs.{needs}
 use Rattle.job.proofs.read_row.Statement.{statement}

@@ -1,9 +1,9 @@
--- `job::grown` meets its contract. Assumes nothing.
+-- `numbers::grown` meets its contract. Assumes nothing.
 use Rattle.lines.proofs.NumberLaws.{digit-within}
 use native.Mathlib.Omega.{arith}
 use borrow.Author.Needs.{needs}
-use Rattle.job.proofs.grown.Statement.{statement}
-use Rattle.job.proofs.grown.Tie as tie
+use Rattle.numbers.proofs.grown.Statement.{statement}
+use Rattle.numbers.proofs.grown.Tie as tie
 
 mul-more : tie.Need-mul-more
 mul-more c = search needs

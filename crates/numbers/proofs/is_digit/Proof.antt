@@ -1,9 +1,9 @@
--- `job::is_digit` meets its contract. Assumes nothing.
+-- `numbers::is_digit` meets its contract. Assumes nothing.
 use mathlib.Core.Path.{_∙_}
 use borrow.Author.Tests.{lt-leb}
 use Rattle.lines.proofs.NumberLaws.{digit-low, digit-under}
-use Rattle.job.proofs.is_digit.Statement.{statement}
-use Rattle.job.proofs.is_digit.Tie as tie
+use Rattle.numbers.proofs.is_digit.Statement.{statement}
+use Rattle.numbers.proofs.is_digit.Tie as tie
 
 returns : tie.Need-returns
 returns c = digit-low (c .before .args .byte) (c .if1 .taken)

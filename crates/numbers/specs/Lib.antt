@@ -1,0 +1,2 @@
+-- What this crate's contracts cite besides what a number is as bytes.
+pub mod Read
