@@ -29,16 +29,6 @@ laid-more words more buffer h =
     length-laid : length (laid words buffer) ≡ length words + (length buffer - length words)
     length-laid = length-append words (drop (length words) buffer) ∙ ap (λ (k : ℕ). length words + k) (length-drop (length words) buffer)
 
--- one word more is copied
-pub copied-more : (from to : List ℕ) (i : ℕ) → i < length from → i < length to
-    → set (take i from ++ drop i to) i (getD from i 0) ≡ take (i + 1) from ++ drop (i + 1) to
-copied-more from to i f t =
-    ap (λ (r : List ℕ). set (take i from ++ r) i (getD from i 0)) (drop-cons to i 0 t)
-    ∙ set-at (take i from) (getD to i 0) (drop (suc i) to) (getD from i 0) i (length-take-le i from (omega arith))
-    ∙ sym (append-snoc (take i from) (getD from i 0) (drop (suc i) to))
-    ∙ ap (λ (r : List ℕ). r ++ drop (suc i) to) (sym (take-suc from i 0 f))
-    ∙ ap (λ (k : ℕ). take k from ++ drop k to) (sym (add-one i))
-
 -- ---- the judge and the level check
 
 call-short : (words buffer : List ℕ) (needed : ℕ) → length buffer < needed

@@ -1,5 +1,6 @@
 // The functions for C and Rust: numbers and slices only. What they answer is laid over the first words of a buffer that the
 // caller lends; a buffer that is too short is refused with a number of its own, and then nothing has changed.
+use leaves::copy::copy_words;
 use rules::Checked;
 use rules::Ended;
 use rules::Judged;
@@ -9,7 +10,7 @@ use rules::VARIABLES;
 ghost use mathlib.Core.Path.{_≡_};
 ghost use mathlib.Core.List.{[], _∷_, _++_};
 ghost use Prim.Native.Nat.{_≤_};
-ghost use lib.ListN.{length, take, drop};
+ghost use lib.ListN.{length};
 ghost use Rattle.rules.specs.Limits.{width};
 ghost use Rattle.rules.specs.Answers.{inputs, saidOfJudge, saidOfRun, saidOfCheck};
 ghost use Rattle.embed.specs.Calls.{numbersOf, saidWords, laid, judgeLength, checkLength, runLength, judgeCall, checkCall, runCall};
@@ -121,18 +122,6 @@ fn put_run(answer: &mut [u32], numbers: Numbers, steps: u32, records: u32, marks
     answer[5] = marks;
 }
 
-// Lays a memory's words over the first words of a slice.
-fn copy_words(from: &[u32], to: &mut [u32])
-    requires { ⌜ (width ≤ length (now from)) × (width ≤ length (now to)) ⌝ }
-    ensures { λ _. ⌜ now (to .exit) ≡ take width (now (from .entry)) ++ drop width (now (to .entry)) ⌝ }
-{
-    let mut i: usize = 0;
-    while i < VARIABLES {
-        to[i] = from[i];
-        i += 1;
-    }
-}
-
 // The judge. The answer's three words are the refusal's number or 0, 0, and the refusal's row.
 #[no_mangle]
 pub extern "C" fn buzorinde_judge(table: &[u32], answer: &mut [u32]) -> u32
@@ -187,10 +176,10 @@ pub extern "C" fn buzorinde_run(
         return MEMORY_TOO_SHORT;
     }
     let mut given = [0u32; VARIABLES];
-    copy_words(memory, &mut given);
+    copy_words(memory, VARIABLES, &mut given);
     let reached = monitor::run(table, Memory { words: given }, marks, budget, trace);
     let words = reached.memory.words;
-    copy_words(&words, memory);
+    copy_words(&words, VARIABLES, memory);
     let ended = reached.ended;
     put_run(
         answer,

@@ -3,12 +3,13 @@ use borrow.Author.Needs.{needs}
 use native.Mathlib.Omega.{arith}
 use Prim.Native.Nat.{ℕ}
 use mathlib.Core.List.{List, [], _∷_, _++_, append-nil}
-use lib.ListN.{length, take}
+use lib.ListN.{length, take, replicate}
 use Rattle.rules.specs.Limits.{width}
 use Rattle.embed.specs.declared.Numbers.{Numbers}
 use Rattle.embed.specs.Calls.{saidWords, laid, RunCall}
 use mathlib.Core.Path.{_≡_, refl, sym, ap, _∙_}
 use Rattle.rules.specs.Answers.{inputs}
+use Rattle.leaves.proofs.CopyLaws.{copied-all}
 use Rattle.embed.proofs.CallLaws.{run-short-answer, run-short-memory, run-given, run-answered}
 use Rattle.embed.proofs.buzorinde_run.Statement.{statement}
 use Rattle.embed.proofs.buzorinde_run.Tie as tie
@@ -45,10 +46,7 @@ slice-aggregate-copy-words-2 : tie.Need-slice-aggregate-copy-words-2
 slice-aggregate-copy-words-2 c = search needs
 
 copy-words-requires-2 : tie.Need-copy-words-requires-2
-copy-words-requires-2 c κs =
-    let ran = c .before .before .before .before .before in
-    let long = ran .before .before .before .before .before .before in
-    (let w = whole ran in omega arith, long .if2 .left)
+copy-words-requires-2 c κs = search needs
 
 run-numbers-requires : tie.Need-run-numbers-requires
 run-numbers-requires c κs = search needs
@@ -76,8 +74,8 @@ returns-3 c =
     let a = long .before .before .before .before .before .before .args in
     let i = inputs (a .table .now) (a .memory .now) (a .marks) (a .budget) (a .trace .now) in
     run-answered i (a .answer .now) (ran .run .result) _ (long .before .if1 .left) (long .if2 .left) (whole ran)
-    (run-given i (a .answer .now) _ (ran .run .result) _ (given .copy-words .ensures ∙ append-nil (take width (a .memory .now))) (ran .run .ensures))
-    ∙ left (sym (copied .copy-words2 .ensures))
+    (run-given i (a .answer .now) _ (ran .run .result) _ (given .copy-words .ensures ∙ copied-all width (a .memory .now) (replicate width 0) (long .if2 .left) (omega arith) ∙ append-nil (take width (a .memory .now))) (ran .run .ensures))
+    ∙ left (sym (copied .copy-words2 .ensures ∙ copied-all width (ran .run .result .memory .words) (a .memory .now) (let w = whole ran in omega arith) (long .if2 .left)))
     (ap (λ (n : Numbers). laid (saidWords n ++ ran .run .result .steps ∷ ran .run .result .records ∷ ran .run .result .marks ∷ []) (a .answer .now)) (sym (numbers .run-numbers .ensures))
     ∙ sym (put .put-run .ensures))
 
