@@ -1,0 +1,15 @@
+-- Every claim of this crate, proved.
+use Rattle.language.specs.Claims.{Claims}
+use Rattle.language.proofs.Unambiguous.{single-reading}
+use Rattle.language.proofs.OneAnswer.{one-answer}
+use Rattle.language.proofs.TableLaws.{table-is-judged, rows-are-the-tree}
+use Rattle.language.proofs.Evaluation.{texts-read}
+
+pub claims : Claims
+claims = record {
+  single-reading = single-reading;
+  one-answer = one-answer;
+  table-is-judged = table-is-judged;
+  rows-are-the-tree = rows-are-the-tree;
+  texts-read = texts-read;
+}

@@ -1,0 +1,10 @@
+-- The laws of recipes as text.
+pub mod Unambiguous
+pub mod OneAnswer
+pub mod KnownWords
+pub mod RightRows
+pub mod PartLaws
+pub mod RecipeRows
+pub mod TableLaws
+pub mod Evaluation
+pub mod Claims
