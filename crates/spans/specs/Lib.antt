@@ -1,0 +1,2 @@
+-- What this crate's contracts cite besides the language.
+pub mod Cut
