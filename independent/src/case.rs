@@ -1,4 +1,4 @@
-//! Table cases: questions that a job cannot put, in lines like a job's.
+//! Cases: questions that a job cannot put, in lines like a job's.
 
 use crate::job::{end_lines, list, refusal_lines, Lines, LACKS_FORM};
 use crate::levels::{levels, Outcome};
@@ -6,6 +6,7 @@ use crate::marks::{from_bits, to_bits, united, Marks, EMPTY, VARIABLES};
 use crate::rows::{assigned_at, row_at, value_at};
 use crate::run::{run, Answer};
 use crate::table::{judge, words_of, Refusal};
+use crate::text::read;
 use crate::tree::{Memory, Operator};
 
 /// The functions that cases ask. An answer's lines are the same, whoever gives it.
@@ -29,7 +30,8 @@ pub fn answer(input: &[u8]) -> Result<String, Refusal> {
 /// What an answer says for every unknown kind, and for the kind of a row that is not there.
 const UNKNOWN: u32 = 11;
 
-/// Answers a case by these functions; rows, mark sets and operators are always answered here.
+/// Answers a case by these functions; rows, mark sets, operators and texts are always answered
+/// here.
 pub fn answer_by(functions: &Functions, input: &[u8]) -> Result<String, Refusal> {
     let mut lines = Lines::of(input);
     let answer = match lines.word("ask")? {
@@ -46,6 +48,7 @@ pub fn answer_by(functions: &Functions, input: &[u8]) -> Result<String, Refusal>
         b"rows" => rows_answer(&mut lines)?,
         b"marks" => marks_answer(&mut lines)?,
         b"operator" => operator_answer(&mut lines)?,
+        b"text" => text_answer(&mut lines)?,
         _ => return Err(lacks_form(1)),
     };
     lines.end()?;
@@ -158,4 +161,15 @@ fn operator_answer(lines: &mut Lines) -> Result<String, Refusal> {
     let left = lines.number("left", u32::MAX)?;
     let right = lines.number("right", u32::MAX)?;
     Ok(format!("value={}\n", operator.value(left, right)))
+}
+
+/// The text is not in a line: it may have any bytes.
+fn text_answer(lines: &mut Lines) -> Result<String, Refusal> {
+    let mut table = counted(lines, "lent", "table")?;
+    let length = lines.number("length", u32::MAX)?;
+    let reading = read(lines.bytes(length as usize)?, &mut table);
+    let mut text = format!("refused={}\nat={}\n", reading.refused, reading.at);
+    text += &format!("rows={}\nlevels={}\n", reading.rows, reading.marks);
+    text += &format!("start={}\nlength={}\n", reading.start, reading.length);
+    Ok(text + &format!("lent={}\ntable={}\n", table.len(), list(&table)))
 }

@@ -81,6 +81,16 @@ impl<'a> Lines<'a> {
         value_of(self.take()?, key).ok_or(lacks_form)
     }
 
+    /// Takes so many bytes, which need be no lines.
+    pub fn bytes(&mut self, count: usize) -> Result<&'a [u8], Refusal> {
+        let (bytes, rest) = self
+            .rest
+            .split_at_checked(count)
+            .ok_or(self.refusal(LACKS_FORM))?;
+        self.rest = rest;
+        Ok(bytes)
+    }
+
     /// "and then the input ends. A further line [...] is 7."
     pub fn end(&self) -> Result<(), Refusal> {
         if self.rest.is_empty() {
@@ -111,6 +121,11 @@ fn well_formed(field: &[u8]) -> bool {
 /// "one over 4,294,967,295 is 8": no number for those.
 fn number(field: &[u8]) -> Option<u32> {
     std::str::from_utf8(field).ok()?.parse().ok()
+}
+
+/// The number that these bytes are, in form and in range.
+pub fn decimal(bytes: &[u8]) -> Option<u32> {
+    number(bytes).filter(|_| well_formed(bytes))
 }
 
 /// "Refusal 9 comes first; then the first faulty line."

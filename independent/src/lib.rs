@@ -10,5 +10,8 @@ pub mod recipes;
 pub mod rows;
 pub mod run;
 pub mod table;
+pub mod text;
+pub mod texts;
 pub mod tree;
 pub mod vectors;
+pub mod writing;

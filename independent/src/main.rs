@@ -12,7 +12,7 @@ usage: independent [OPTION]
 With no option: read a job on standard input and print its report.
   --judge        print the judge's answer for the job's table
   --levels       print the level check's answer for the job's table and levels
-  --case         read a table case on standard input and print its answer
+  --case         read a case on standard input and print its answer
   --vectors DIR  write every vector, with its expected output, below DIR
   --program DIR  write what the program `cases` reads and must write, below DIR
   --help         print this text

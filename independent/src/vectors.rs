@@ -8,6 +8,7 @@ mod lines;
 mod rows;
 mod runs;
 mod tables;
+mod texts;
 
 use std::fs;
 use std::io;
@@ -36,11 +37,13 @@ const WHOLE_CASE: [&str; 12] = [
     "row=2,1,3,0",
 ];
 
-/// A job for the program, or a case for a function that a job does not reach.
+/// A job for the program, or a case for a function that a job does not reach: one that is asked
+/// about tables, or the reader of texts.
 #[derive(Clone, Copy, Debug, PartialEq, Eq)]
 pub enum Form {
     Job,
     Case,
+    Text,
 }
 
 /// One input; its name says what it shows.
@@ -71,7 +74,7 @@ impl Vector {
     pub fn expected(&self) -> String {
         match self.form {
             Form::Job => report(&self.input),
-            Form::Case => case::answer(&self.input)
+            Form::Case | Form::Text => case::answer(&self.input)
                 .unwrap_or_else(|fault| format!("faulty case: {fault:?}\n")),
         }
     }
@@ -86,21 +89,21 @@ pub fn all() -> Vec<Vector> {
         rows::vectors(),
         leaves::vectors(),
         lines::vectors(),
+        texts::vectors(),
     ];
     groups.into_iter().flatten().collect()
 }
 
-/// Writes every vector below `folder`, in `jobs` and `tables`.
+/// Writes every vector below `folder`, in `jobs`, `tables` and `texts`.
 pub fn write(folder: &Path) -> io::Result<()> {
-    let (jobs, tables) = (folder.join("jobs"), folder.join("tables"));
-    fs::create_dir_all(&jobs)?;
-    fs::create_dir_all(&tables)?;
     for vector in all() {
-        let (folder, input, output) = match vector.form {
-            Form::Job => (&jobs, "job", "report"),
-            Form::Case => (&tables, "case", "answer"),
+        let (below, input, output) = match vector.form {
+            Form::Job => ("jobs", "job", "report"),
+            Form::Case => ("tables", "case", "answer"),
+            Form::Text => ("texts", "case", "answer"),
         };
-        let name = &vector.name;
+        let (folder, name) = (folder.join(below), &vector.name);
+        fs::create_dir_all(&folder)?;
         fs::write(folder.join(format!("{name}.{input}")), &vector.input)?;
         fs::write(folder.join(format!("{name}.{output}")), vector.expected())?;
     }
@@ -177,12 +180,8 @@ impl Setting {
         text
     }
 
-    /// A run case. The trace holds numbers before the run, so that a word kept and a word
-    /// written can be told apart; a long trace holds digits, to be short in the file.
     pub fn case_text(&self) -> String {
-        let long = self.lent > 64;
-        let old = |at: u32| if long { 1 + at % 9 } else { 900 + at };
-        let trace: Vec<u32> = (0..self.lent as u32).map(old).collect();
+        let trace = old_words(self.lent);
         let mut text = format!("ask=run\n{}", self.marked_text());
         text += &format!("budget={}\n", self.budget);
         text + &format!("lent={}\ntrace={}\n", self.lent, list(&trace))
@@ -201,6 +200,14 @@ impl Setting {
             Vector::case(&format!("run-{name}"), self.case_text()),
         ]
     }
+}
+
+/// What a lent trace or table holds before: numbers, so that a word kept and a word written
+/// can be told apart; a long one holds digits, to be short in the file.
+fn old_words(count: usize) -> Vec<u32> {
+    let long = count > 64;
+    let old = |at: u32| if long { 1 + at % 9 } else { 900 + at };
+    (0..count as u32).map(old).collect()
 }
 
 fn words_text(words: &[u32]) -> String {
@@ -226,6 +233,16 @@ pub fn rows_case(name: &str, setting: &Setting, rows: &[u32]) -> Vector {
 pub fn marks_case(name: &str, levels: u32, variable: u32, others: u32) -> Vector {
     let text = format!("ask=marks\nlevels={levels}\nvariable={variable}\nothers={others}\n");
     Vector::case(&format!("marks-{name}"), text)
+}
+
+pub fn text_case(name: &str, text: &[u8], lent: usize) -> Vector {
+    let mut input = format!("ask=text\nlent={lent}\n");
+    input += &format!("table={}\nlength={}\n", list(&old_words(lent)), text.len());
+    Vector {
+        form: Form::Text,
+        name: name.to_string(),
+        input: [input.as_bytes(), text].concat(),
+    }
 }
 
 pub fn operator_case(name: &str, operator: u32, left: u32, right: u32) -> Vector {

@@ -8,6 +8,9 @@ mod reader;
 mod refusals;
 mod rows;
 mod runs;
+mod texts;
+mod texts_random;
+mod texts_searched;
 mod vectors;
 
 use independent::recipes::{lay, Part};

@@ -86,6 +86,21 @@ fn case_of_rows() {
 }
 
 #[test]
+fn case_of_a_text() {
+    let asked = "ask=text\nlent=9\ntable=1,2,3,4,5,6,7,8,9\nlength=12\nsettled\nv7\n\n";
+    let read = "refused=0\nat=0\nrows=2\nlevels=0\nstart=12\nlength=0\n";
+    let table = "lent=9\ntable=9,7,0,0,5,0,0,0,9\n";
+    answers(&["--case"], asked, &(read.to_string() + table));
+    let asked = "ask=text\nlent=1\ntable=5\nlength=3\nend";
+    let refused = "refused=10\nat=0\nrows=0\nlevels=0\nstart=0\nlength=3\n";
+    let table = "lent=1\ntable=5\n";
+    answers(&["--case"], asked, &(refused.to_string() + table));
+    let asked = "ask=text\nlent=0\ntable=\nlength=0\n";
+    let refused = "refused=10\nat=0\nrows=0\nlevels=0\nstart=0\nlength=0\nlent=0\ntable=\n";
+    answers(&["--case"], asked, refused);
+}
+
+#[test]
 fn misused() {
     for arguments in [
         &["--unknown"][..],
@@ -96,7 +111,13 @@ fn misused() {
         let (status, text, told) = program(arguments, JOB);
         assert_eq!((status, text.as_str(), told), (Some(2), "", true));
     }
-    for case in ["", "ask=x\n", "ask=operator\noperator=x\nleft=0\nright=1\n"] {
+    for case in [
+        "",
+        "ask=x\n",
+        "ask=operator\noperator=x\nleft=0\nright=1\n",
+        "ask=text\nlent=0\ntable=\nlength=5\nskip",
+        "ask=text\nlent=0\ntable=\nlength=3\nskip",
+    ] {
         let (status, text, told) = program(&["--case"], case);
         assert_eq!((status, text.as_str(), told), (Some(2), "", true));
     }

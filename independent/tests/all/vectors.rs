@@ -44,6 +44,25 @@ fn every_answer_is_given() {
     for line in ["failed=0", "failed=1"] {
         assert!(with_line(&vectors, Form::Case, line) >= 20, "{line}");
     }
+    for number in [0, 5, 9, 10, 11, 12, 13] {
+        let line = format!("refused={number}");
+        assert!(with_line(&vectors, Form::Text, &line) >= 5, "{line}");
+    }
+}
+
+/// Each pair of refusals of texts has a vector, which is refused by the one that comes first.
+#[test]
+fn every_order_of_two_refusals_is_shown() {
+    const ORDER: [u32; 6] = [9, 10, 11, 12, 5, 13];
+    let vectors = all();
+    for (at, first) in ORDER.iter().enumerate() {
+        for later in &ORDER[at + 1..] {
+            let name = format!("order-{first}-before-{later}");
+            let shown = vectors.iter().find(|vector| vector.name == name);
+            let answer = shown.expect(&name).expected();
+            assert!(answer.starts_with(&format!("refused={first}\n")), "{name}");
+        }
+    }
 }
 
 /// The bounds that `vectors/README.md` gives to readers with fixed buffers.
@@ -56,13 +75,20 @@ fn sizes_are_bounded() {
     };
     for vector in all() {
         let (most, most_expected) = match vector.form {
-            Form::Case => (40_000, 40_000),
+            Form::Case | Form::Text => (40_000, 40_000),
             Form::Job => (80_000, 150_000),
         };
         assert!(vector.input.len() <= most && vector.expected().len() <= most_expected);
-        if vector.form == Form::Case {
-            assert!(number(&vector, "count=") <= 4096);
-            assert!(number(&vector, "lent=") <= 16385);
+        match vector.form {
+            Form::Job => {}
+            Form::Case => {
+                assert!(number(&vector, "count=") <= 4096);
+                assert!(number(&vector, "lent=") <= 16385);
+            }
+            Form::Text => {
+                assert!(number(&vector, "lent=") <= 2060);
+                assert!(number(&vector, "length=") <= 20_000);
+            }
         }
     }
 }
