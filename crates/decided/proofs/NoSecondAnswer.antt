@@ -6,8 +6,11 @@ use Rattle.rules.specs.declared.Advice.{Advice}
 use Rattle.rules.specs.Answers.{Said, Advised, Whole, saidOfJudge, advisedOf, toldOf, telling}
 use Rattle.rules.proofs.AnswerLaws.{judged-unique, checked-unique, ended-unique, told-said, told-steps, told-records, told-memory, told-marks}
 use Rattle.expression.proofs.SaidLaws.{evaluation-unique, assigned-unique}
+use Rattle.numbers.proofs.FieldLaws.{field-unique}
 use Rattle.job.proofs.JobLaws.{reading-unique}
 use Rattle.report.proofs.ReportLaws.{wrote-unique}
+use Rattle.spans.proofs.WordLaws.{cut-once}
+use Rattle.language.proofs.OneAnswer.{one-answer}
 use Rattle.decided.specs.NoSecondAnswer.{NoSecondAnswer}
 
 -- two that are equal to a third
@@ -46,16 +49,21 @@ no-second-answer = record {
   operated = λ _ _ _ _ _ _ e f. (same e f, refl);
   read-lent = λ _ _ _ _ _ _ e f. (same e f, refl);
   store-lent = λ _ _ _ _ _ _ e f. (refl, λ i. (same e f i, (tt, (tt, tt))));
+  copy-words = λ _ _ _ _ _ _ e f. (refl, λ i. (tt, (tt, (same e f i, tt))));
   value-at = λ _ _ _ _ _ _ e f. (evaluation-unique _ _ (same e f), refl);
   evaluate = λ _ _ _ _ _ _ e f. (same e f, refl);
   assigned-at = λ _ _ _ _ _ _ e f. (assigned-unique _ _ (same e f), refl);
   may-assign = λ _ _ _ _ _ _ e f. (same e f, refl);
   run = λ _ _ _ _ _ _ e f. (told-once _ (e .told) (f .told), λ i. (tt, (tt, (tt, (tt, (same (e .trace-after) (f .trace-after) i, tt))))));
   check = λ _ _ _ _ _ _ e f. (advised-once e f, refl);
+  number-at = λ _ _ _ _ _ _ e f. (field-unique _ _ _ (e .1) (f .1) (same (e .0) (f .0)), refl);
   read-job = λ _ _ _ _ _ _ e f. (reading-unique _ _ (same e f), refl);
   write-refusal = λ _ _ _ _ _ _ e f. (wrote-unique _ _ (λ i. same e f i .said), λ i. (tt, (tt, (same e f i .out, tt))));
   write-report = λ _ _ _ _ _ _ e f. (wrote-unique _ _ (λ i. same e f i .said), λ i. (tt, (tt, (same e f i .out, tt))));
   answer-job = λ _ _ _ _ _ _ e f. (wrote-unique _ _ (λ i. same e f i .said), λ i. (tt, (same e f i .out, tt)));
+  word-at = λ _ _ _ _ _ _ e f. (cut-once e f, refl);
+  is-key = λ _ _ _ _ _ _ e f. (same e f, refl);
+  read-text = λ _ _ _ _ _ _ e f. let r = one-answer _ _ _ _ _ e f in (λ i. r i .said, λ i. (tt, (r i .table, tt)));
   buzorinde-judge = λ _ _ _ _ _ _ e f. let c = same (sym e) (sym f) in (λ i. c i .status, λ i. (tt, (c i .answer, tt)));
   buzorinde-check = λ _ _ _ _ _ _ e f. let c = same (sym e) (sym f) in (λ i. c i .status, λ i. (tt, (tt, (c i .answer, tt))));
   buzorinde-run = λ _ _ _ _ _ _ e f. let c = same (sym e) (sym f) in (λ i. c i .status, λ i. (tt, (c i .memory, (tt, (tt, (c i .trace, (c i .answer, tt)))))));

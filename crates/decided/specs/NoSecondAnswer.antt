@@ -13,16 +13,21 @@ use Rattle.leaves.proofs.marks.joined
 use Rattle.leaves.proofs.operators.operated
 use Rattle.leaves.proofs.memory.read_lent
 use Rattle.leaves.proofs.memory.store_lent
+use Rattle.leaves.proofs.copy.copy_words
 use Rattle.expression.proofs.values.value_at
 use Rattle.expression.proofs.values.evaluate
 use Rattle.expression.proofs.assigned.assigned_at
 use Rattle.expression.proofs.assigned.may_assign
 use Rattle.monitor.proofs.run
 use Rattle.levels.proofs.check
+use Rattle.numbers.proofs.number_at
 use Rattle.job.proofs.read_job
 use Rattle.report.proofs.write_refusal
 use Rattle.report.proofs.write_report
 use Rattle.desk.proofs.answer_job
+use Rattle.spans.proofs.word_at
+use Rattle.spans.proofs.is_key
+use Rattle.reader.proofs.read_text
 use Rattle.embed.proofs.buzorinde_judge
 use Rattle.embed.proofs.buzorinde_check
 use Rattle.embed.proofs.buzorinde_run
@@ -43,6 +48,7 @@ pub record NoSecondAnswer : Type 0 where
   pub operated : Decided operated.signature operated.Reads.Learnt
   pub read-lent : Decided read_lent.signature read_lent.Reads.Learnt
   pub store-lent : Decided store_lent.signature store_lent.Reads.Learnt
+  pub copy-words : Decided copy_words.signature copy_words.Reads.Learnt
   -- `expression`
   pub value-at : Decided value_at.signature value_at.Reads.Learnt
   pub evaluate : Decided evaluate.signature evaluate.Reads.Learnt
@@ -52,6 +58,8 @@ pub record NoSecondAnswer : Type 0 where
   pub run : Decided run.signature run.Reads.Learnt
   -- `levels`
   pub check : Decided check.signature check.Reads.Learnt
+  -- `numbers`
+  pub number-at : Decided number_at.signature number_at.Reads.Learnt
   -- `job`
   pub read-job : Decided read_job.signature read_job.Reads.Learnt
   -- `report`
@@ -59,6 +67,11 @@ pub record NoSecondAnswer : Type 0 where
   pub write-report : Decided write_report.signature write_report.Reads.Learnt
   -- `desk`
   pub answer-job : Decided answer_job.signature answer_job.Reads.Learnt
+  -- `spans`
+  pub word-at : Decided word_at.signature word_at.Reads.Learnt
+  pub is-key : Decided is_key.signature is_key.Reads.Learnt
+  -- `reader`
+  pub read-text : Decided read_text.signature read_text.Reads.Learnt
   -- `embed`
   pub buzorinde-judge : Decided buzorinde_judge.signature buzorinde_judge.Reads.Learnt
   pub buzorinde-check : Decided buzorinde_check.signature buzorinde_check.Reads.Learnt

@@ -1,0 +1,16 @@
+-- The laws of reading a recipe's text.
+pub mod Clash
+pub mod RunLaws
+pub mod FaultLaws
+pub mod KeyLaws
+pub mod SpellLaws
+pub mod RowLaws
+pub mod AtomLaws
+pub mod PlaceLaws
+pub mod NameLaws
+pub mod FrameLaws
+pub mod TurnLaws
+pub mod StatementLaws
+pub mod HeadLaws
+pub mod WholeLaws
+pub mod TextLaws

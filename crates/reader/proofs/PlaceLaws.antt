@@ -1,0 +1,154 @@
+-- The places of a text: how the words from one place on go on from another, the word that stands at one, and where no recipe goes on.
+use Prim.Native.Nat.{ℕ, _-_, _<_}
+use native.Mathlib.Omega.{arith}
+use mathlib.Core.Bool.{Bool, true, false}
+use mathlib.Core.List.{List, [], _∷_, _++_, append-assoc}
+use mathlib.Core.Logic.{_⊎_, inl, inr}
+use mathlib.Core.Path.{_≡_, refl, sym, ap, _∙_}
+use lib.Dec.{ltb}
+use lib.ListN.{take, drop}
+use borrow.Author.Tests.{ltb-true, ltb-false, eq-eqb}
+use Rattle.language.specs.Words.{Word}
+use Rattle.language.specs.Tokens as word
+use Rattle.language.specs.Tokens.{Token, fixed, same, counted, among, tokenOf, tokens}
+use Rattle.language.specs.Readings.{partAt}
+use Rattle.spans.specs.Cut.{from, part, Cut}
+use Rattle.spans.specs.declared.Span.{Span}
+use Rattle.spans.proofs.WordLaws.{cut-part}
+use Rattle.reader.specs.Machine.{tag, isWord, Symbol, exactly, Advance, stop, expected, advance, mayEnd, endsAt, ended, onward, stuck, run}
+use Rattle.reader.specs.Steps.{Later, Stuck}
+use Rattle.reader.specs.Statements.{Spells, Led, Missing}
+use Rattle.reader.proofs.Clash.{clash}
+
+pub later-self : {text : List ℕ} {at : ℕ} → Later text at at
+later-self = record { between = []; split = refl }
+
+pub later-on : {text : List ℕ} {at mid next : ℕ} → Later text at mid → Later text mid next → Later text at next
+later-on {text} {at} {mid} {next} a b = record {
+  between = a .between ++ b .between;
+  split = a .split ∙ ap (λ (l : List Word). a .between ++ l) (b .split) ∙ sym (append-assoc (a .between) (b .between) (from text next));
+}
+
+-- ---- the word at a place
+
+empty-unknown : tokenOf [] ≡ word.unknown
+unfolding tokenOf among fixed same counted
+empty-unknown = refl
+
+module _ {text : List ℕ} {at : ℕ} {s : Span} (c : Cut text at s) where
+  -- there is a word, or none
+  abbrev Sight : Type 0
+  Sight = (s .start < s .end) ⊎ (s .start ≡ s .end)
+
+  sight : Sight
+  sight = by (ltb (s .start) (s .end)) refl
+    where
+      by : (b : Bool) → ltb (s .start) (s .end) ≡ b → Sight
+      by true h = inl (ltb-true (s .start) (s .end) h)
+      by false h = let k = ltb-false (s .start) (s .end) h in inr (omega (arith, c .forward))
+
+  cut-token : (first : Token) (later : List Token) → tokens (from text at) ≡ first ∷ later → first ≡ tokenOf (part text (s .start) (s .end))
+  cut-token first later e = by sight
+    where
+      by : Sight → first ≡ tokenOf (part text (s .start) (s .end))
+      by (inl some) =
+          let is : first ∷ later ≡ tokenOf (part text (s .start) (s .end)) ∷ tokens (from text (s .end)) = sym e ∙ ap tokens (c .first some) in
+          cc
+      by (inr over) = let none : first ∷ later ≡ [] = sym e ∙ ap tokens (c .last over .1) in clash (cc)
+
+  pub led-token : {t : Token} → tokenOf (part text (s .start) (s .end)) ≡ t → (word.unknown ≡ t → ⊥) → Led text at t (s .end)
+  led-token {t} e written = by sight
+    where
+      by : Sight → Led text at t (s .end)
+      by (inl some) =
+          record {
+            is = ap tokens (c .first some) ∙ ap (λ (x : Token). x ∷ tokens (from text (s .end))) e;
+            later = record { between = _ ∷ []; split = c .first some };
+            on = omega (arith, c .later some);
+            inside = c .inside;
+          }
+      by (inr over) =
+          let size : 0 ≡ s .end - s .start = omega arith in
+          absurd (written (sym empty-unknown ∙ ap (λ (n : ℕ). tokenOf (take n (drop (s .start) text))) size ∙ e))
+
+  -- where a word is led past, there is one
+  pub led-some : {t : Token} {next : ℕ} → Led text at t next → s .start < s .end
+  led-some {t} {next} w = by sight
+    where
+      by : Sight → s .start < s .end
+      by (inl some) = some
+      by (inr over) = let none : t ∷ tokens (from text next) ≡ [] = sym (w .is) ∙ ap tokens (c .last over .1) in clash (cc)
+
+  -- what a test of the word says of a key
+  pub led-key :
+      {key bytes : List ℕ} {b : Bool} {t : Token} → bytes ≡ part text (s .start) (s .end) → b ≡ same key bytes → b ≡ true → Spells key t
+      → Led text at t (s .end)
+  led-key {key} {t = t} is told yes′ k =
+      led-token (k .is _ (ap (same key) (sym is) ∙ sym told ∙ yes′))
+      (λ e.
+      let none : isWord t (tokenOf []) ≡ true = eq-eqb (tag (tokenOf [])) (tag t) (ap tag (empty-unknown ∙ e)) in
+      clash (cc (k .some, k .told [])))
+
+  pub missing-key :
+      {key bytes : List ℕ} {b : Bool} {t : Token} → bytes ≡ part text (s .start) (s .end) → b ≡ same key bytes → b ≡ false → Spells key t
+      → Missing text at t (s .start) (s .end)
+  missing-key {key} {t = t} is told no′ k =
+      record {
+        other = λ first later e. ap (isWord t) (cut-token first later e) ∙ sym (k .told _) ∙ ap (same key) (sym is) ∙ sym told ∙ no′;
+        part = cut-part c;
+      }
+
+-- ---- where no recipe goes on
+
+run-stops : (ts : List Token) (symbol : Symbol) (others : List Symbol) → mayEnd symbol ≡ false
+    → ((first : Token) (later : List Token) → ts ≡ first ∷ later → advance symbol first ≡ stop) → run ts (symbol ∷ others) ≡ stuck ts
+unfolding run
+run-stops [] symbol others needed stops = ap (λ (b : Bool). endsAt b (ended others)) needed
+run-stops (t ∷ ts) symbol others needed stops = ap (λ (a : Advance). onward a (run ts) others (t ∷ ts)) (stops t ts refl)
+
+module _ {text : List ℕ} {start end : ℕ} where
+  pub stuck-more : {at : ℕ} {symbols : List Symbol} → Stuck text at symbols start end → (later : List Symbol) → Stuck text at (symbols ++ later) start end
+  stuck-more {at} {symbols} s later =
+      record {
+        place = s .place;
+        stops = λ others. ap (run (tokens (from text at))) (append-assoc symbols later others) ∙ s .stops (later ++ others);
+        later = s .later;
+        part = s .part;
+      }
+
+  -- the words before a place take the place of their symbols
+  pub stuck-past :
+      {at next : ℕ} (words : List Token → List Token) {symbols after : List Symbol}
+      → tokens (from text at) ≡ words (tokens (from text next)) → Later text at next
+      → ((ts : List Token) (others : List Symbol) → run (words ts) (symbols ++ others) ≡ run ts (after ++ others))
+      → Stuck text next after start end → Stuck text at symbols start end
+  stuck-past {at} {next} words {symbols} e later runs s =
+      record {
+        place = s .place;
+        stops = λ others. ap (λ (l : List Token). run l (symbols ++ others)) e ∙ runs (tokens (from text next)) others ∙ s .stops others;
+        later = later-on later (s .later);
+        part = s .part;
+      }
+
+  pub stuck-word :
+      {at next : ℕ} {t : Token} {symbols after : List Symbol} → Led text at t next
+      → ((ts : List Token) (others : List Symbol) → run (t ∷ ts) (symbols ++ others) ≡ run ts (after ++ others))
+      → Stuck text next after start end → Stuck text at symbols start end
+  stuck-word {t = t} w runs s = stuck-past (λ ts. t ∷ ts) (w .is) (w .later) runs s
+
+  -- the word at the place itself does not go on with this symbol
+  pub stuck-here :
+      {at : ℕ} (symbol : Symbol) → mayEnd symbol ≡ false
+      → ((first : Token) (later : List Token) → tokens (from text at) ≡ first ∷ later → advance symbol first ≡ stop)
+      → partAt text (from text at) ≡ record { start = start; size = end - start } → Stuck text at (symbol ∷ []) start end
+  stuck-here {at} symbol needed stops part =
+      record { place = at; stops = λ others. run-stops (tokens (from text at)) symbol others needed stops; later = later-self; part = part }
+
+  -- another word stands where this one is to stand
+  pub lacks-word : {at : ℕ} {t : Token} → Missing text at t start end → Stuck text at (exactly t ∷ []) start end
+  lacks-word {t = t} m = stuck-here (exactly t) refl (λ first later e. ap expected (m .other first later e)) (m .part)
+
+pub stuck-cut : {text : List ℕ} {at : ℕ} {s : Span} → Cut text at s → (symbol : Symbol) → mayEnd symbol ≡ false
+    → advance symbol (tokenOf (part text (s .start) (s .end))) ≡ stop → Stuck text at (symbol ∷ []) (s .start) (s .end)
+stuck-cut c symbol needed stops =
+    stuck-here symbol needed (λ first later e. ap (advance symbol) (cut-token c first later e) ∙ stops) (cut-part c)

@@ -1,0 +1,186 @@
+// An expression's words, read from the left to the right. What is open stands in a lent array, an entry for each parenthesis: 0
+// where its left side is being read, and else the left side's row and the operator's number.
+use crate::atoms::Atom;
+use crate::atoms::NO_SIGN;
+use crate::atoms::atom_of;
+use crate::atoms::sign_of;
+use crate::put::TABLE_WORDS;
+use crate::put::put_row;
+use spans::is_key;
+use spans::word_at;
+use spans::word_part;
+ghost use mathlib.Core.Bool.{true, false};
+ghost use mathlib.Core.List.{[], _∷_};
+ghost use mathlib.Core.Path.{_≡_};
+ghost use Prim.Native.Nat.{_+_, _*_, _≤_};
+ghost use lib.ListN.{length};
+ghost use Rattle.language.specs.Limits.{mostTextBytes};
+ghost use Rattle.reader.specs.Machine.{expr};
+ghost use Rattle.reader.specs.Steps.{Asked, Stepped, expressions};
+ghost use Rattle.reader.specs.Frames.{Ready, Turned};
+
+pub const MOST_TEXT: usize = 16384;
+
+// The place after what was read, and how many rows there are; or the word that is at fault.
+pub enum Step {
+    Next { at: usize, count: u32 },
+    Faulty { start: usize, end: usize },
+}
+
+// How far an expression is: the place, the rows, how many parentheses are open, and whether one of its expressions is whole there.
+pub struct Inside {
+    pub at: usize,
+    pub count: u32,
+    pub depth: usize,
+    pub whole: bool,
+}
+
+// What a word makes of an expression; or that the expression is over.
+enum Turn {
+    Went(Inside),
+    Over,
+    Faulty { start: usize, end: usize },
+}
+
+// The entry of a left side's row and an operator.
+fn entry_of(row: u32, sign: u32) -> u32
+    requires { ⌜ (row ≤ mostTextBytes) × (sign ≤ 5) ⌝ }
+    ensures { λ r. ⌜ r ≡ row * 8 + sign + 1 ⌝ }
+{
+    row * 8 + sign + 1
+}
+
+// Reads a word where an expression begins: a parenthesis, a number or a variable.
+fn begin(text: &[u8], s: Inside, rows: &mut [u32; TABLE_WORDS], held: &mut [u32; MOST_TEXT]) -> Turn
+    requires { ⌜ Ready (now text) s (now rows) (now held) × (s .whole ≡ false) ⌝ }
+    ensures { λ r. ⌜
+        Turned (now (text .entry)) s (now (rows .entry)) (now (held .entry)) r (now (rows .exit)) (now (held .exit)) ⌝ }
+{
+    let w = word_at(text, s.at);
+    let start = w.start;
+    let end = w.end;
+    let word = word_part(text, start, end);
+    let depth = s.depth;
+    let count = s.count;
+    if is_key(word, b"(") {
+        held[depth] = 0;
+        return Turn::Went(Inside {
+            at: end,
+            count,
+            depth: depth + 1,
+            whole: false,
+        });
+    }
+    let atom = atom_of(word);
+    match atom {
+        Atom::Nothing => Turn::Faulty { start, end },
+        Atom::Constant(value) => {
+            put_row(rows, count, 8, value, 0, 0);
+            Turn::Went(Inside {
+                at: end,
+                count: count + 1,
+                depth,
+                whole: true,
+            })
+        }
+        Atom::Variable(variable) => {
+            put_row(rows, count, 9, variable, 0, 0);
+            Turn::Went(Inside {
+                at: end,
+                count: count + 1,
+                depth,
+                whole: true,
+            })
+        }
+    }
+}
+
+// Reads a word after an expression: within parentheses the operator after a left side, or the end after a right one.
+fn go_on(text: &[u8], s: Inside, rows: &mut [u32; TABLE_WORDS], held: &mut [u32; MOST_TEXT]) -> Turn
+    requires { ⌜ Ready (now text) s (now rows) (now held) × (s .whole ≡ true) ⌝ }
+    ensures { λ r. ⌜
+        Turned (now (text .entry)) s (now (rows .entry)) (now (held .entry)) r (now (rows .exit)) (now (held .exit)) ⌝ }
+{
+    if s.depth == 0 {
+        return Turn::Over;
+    }
+    let w = word_at(text, s.at);
+    let start = w.start;
+    let end = w.end;
+    let word = word_part(text, start, end);
+    let count = s.count;
+    let last = s.depth - 1;
+    let entry = held[last];
+    if entry == 0 {
+        let sign = sign_of(word);
+        if sign == NO_SIGN {
+            return Turn::Faulty { start, end };
+        }
+        held[last] = entry_of(count - 1, sign);
+        return Turn::Went(Inside {
+            at: end,
+            count,
+            depth: last + 1,
+            whole: false,
+        });
+    }
+    if !is_key(word, b")") {
+        return Turn::Faulty { start, end };
+    }
+    put_row(rows, count, 10, (entry - 1) % 8, (entry - 1) / 8, count - 1);
+    Turn::Went(Inside {
+        at: end,
+        count: count + 1,
+        depth: last,
+        whole: true,
+    })
+}
+
+// Reads the next word of an expression.
+fn read_word(
+    text: &[u8],
+    s: Inside,
+    rows: &mut [u32; TABLE_WORDS],
+    held: &mut [u32; MOST_TEXT],
+) -> Turn
+    requires { ⌜ Ready (now text) s (now rows) (now held) ⌝ }
+    ensures { λ r. ⌜
+        Turned (now (text .entry)) s (now (rows .entry)) (now (held .entry)) r (now (rows .exit)) (now (held .exit)) ⌝ }
+{
+    if s.whole {
+        return go_on(text, s, rows, held);
+    }
+    begin(text, s, rows, held)
+}
+
+// Reads the expression at a place, whose first row is to be this one.
+pub fn read_expression(
+    text: &[u8],
+    from: usize,
+    first: u32,
+    rows: &mut [u32; TABLE_WORDS],
+    held: &mut [u32; MOST_TEXT],
+) -> Step
+    requires { ⌜ Asked (now text) from first (now rows) × (length (now held) ≡ mostTextBytes) ⌝ }
+    ensures { λ r. ⌜
+        Stepped expressions (expr ∷ []) (now (text .entry)) from first (now (rows .entry)) r (now (rows .exit))
+        × (length (now (held .exit)) ≡ mostTextBytes) ⌝ }
+{
+    let mut s = Inside {
+        at: from,
+        count: first,
+        depth: 0,
+        whole: false,
+    };
+    loop {
+        let turn = read_word(text, s, rows, held);
+        match turn {
+            Turn::Went(next) => s = next,
+            Turn::Over => return Step::Next {
+                at: s.at,
+                count: s.count,
+            },
+            Turn::Faulty { start, end } => return Step::Faulty { start, end },
+        }
+    }
+}

@@ -1,0 +1,293 @@
+// Statements and blocks: their readers call each other. A reader keeps its steps in one local, so that a call takes little stack.
+use crate::atoms::Atom;
+use crate::atoms::atom_of;
+use crate::expressions::MOST_TEXT;
+use crate::expressions::Step;
+use crate::expressions::read_expression;
+use crate::put::TABLE_WORDS;
+use crate::put::put_row;
+use spans::is_key;
+use spans::word_at;
+use spans::word_part;
+ghost use mathlib.Core.List.{[], _∷_};
+ghost use mathlib.Core.Path.{_≡_};
+ghost use lib.ListN.{length};
+ghost use Rattle.language.specs.Limits.{mostTextBytes};
+ghost use Rattle.language.specs.Tokens as word;
+ghost use Rattle.reader.specs.Machine.{statement};
+ghost use Rattle.reader.specs.Steps.{statements, Asked, Stepped, BlockStepped};
+ghost use Rattle.reader.specs.Statements.{Looked, Ended, After, OutputAfter};
+
+// The place after a word; or the span of another word that stands there.
+pub enum Found {
+    Next(usize),
+    Faulty { start: usize, end: usize },
+}
+
+// Whether the word at a place is this key.
+pub fn expect(text: &[u8], from: usize, key: &[u8]) -> Found
+    ensures { λ r. ⌜ Looked (now (text .entry)) from (now (key .entry)) r ⌝ }
+{
+    let w = word_at(text, from);
+    let start = w.start;
+    let end = w.end;
+    if is_key(word_part(text, start, end), key) {
+        return Found::Next(end);
+    }
+    Found::Faulty { start, end }
+}
+
+// Reads this word after what a step has read.
+fn ended(text: &[u8], step: Step, key: &[u8]) -> Step
+    ensures { λ r. ⌜ Ended (now (text .entry)) (now (key .entry)) step r ⌝ }
+{
+    match step {
+        Step::Faulty { start, end } => Step::Faulty { start, end },
+        Step::Next { at, count } => {
+            let found = expect(text, at, key);
+            match found {
+                Found::Faulty { start, end } => Step::Faulty { start, end },
+                Found::Next(next) => Step::Next { at: next, count },
+            }
+        }
+    }
+}
+
+// Reads an output after its first word.
+fn read_output(
+    text: &[u8],
+    from: usize,
+    count: u32,
+    channel: u32,
+    rows: &mut [u32; TABLE_WORDS],
+    held: &mut [u32; MOST_TEXT],
+) -> Step
+    requires { ⌜ Asked (now text) from count (now rows) × (length (now held) ≡ mostTextBytes) ⌝ }
+    ensures { λ r. ⌜
+        OutputAfter channel (now (text .entry)) from count (now (rows .entry)) r (now (rows .exit))
+        × (length (now (held .exit)) ≡ mostTextBytes) ⌝ }
+{
+    let shown = read_expression(text, from, count, rows, held);
+    match shown {
+        Step::Faulty { start, end } => Step::Faulty { start, end },
+        Step::Next { at, count: total } => {
+            put_row(rows, total, 5, channel, total - 1, 0);
+            Step::Next {
+                at,
+                count: total + 1,
+            }
+        }
+    }
+}
+
+// Reads an assignment after its first word.
+fn read_set(
+    text: &[u8],
+    from: usize,
+    count: u32,
+    rows: &mut [u32; TABLE_WORDS],
+    held: &mut [u32; MOST_TEXT],
+) -> Step
+    requires { ⌜ Asked (now text) from count (now rows) × (length (now held) ≡ mostTextBytes) ⌝ }
+    ensures { λ r. ⌜
+        After word.set (now (text .entry)) from count (now (rows .entry)) r (now (rows .exit))
+        × (length (now (held .exit)) ≡ mostTextBytes) ⌝ }
+{
+    let w = word_at(text, from);
+    let start = w.start;
+    let end = w.end;
+    let atom = atom_of(word_part(text, start, end));
+    match atom {
+        Atom::Nothing => Step::Faulty { start, end },
+        Atom::Constant(_) => Step::Faulty { start, end },
+        Atom::Variable(variable) => {
+            let equal = expect(text, end, b"=");
+            match equal {
+                Found::Faulty { start, end } => Step::Faulty { start, end },
+                Found::Next(next) => {
+                    let assigned = read_expression(text, next, count, rows, held);
+                    match assigned {
+                        Step::Faulty { start, end } => Step::Faulty { start, end },
+                        Step::Next { at, count: total } => {
+                            put_row(rows, total, 1, variable, total - 1, 0);
+                            Step::Next {
+                                at,
+                                count: total + 1,
+                            }
+                        }
+                    }
+                }
+            }
+        }
+    }
+}
+
+// Reads an if after its first word.
+fn read_if(
+    text: &[u8],
+    from: usize,
+    count: u32,
+    rows: &mut [u32; TABLE_WORDS],
+    held: &mut [u32; MOST_TEXT],
+) -> Step
+    requires { ⌜ Asked (now text) from count (now rows) × (length (now held) ≡ mostTextBytes) ⌝ }
+    ensures { λ r. ⌜
+        After word.if (now (text .entry)) from count (now (rows .entry)) r (now (rows .exit))
+        × (length (now (held .exit)) ≡ mostTextBytes) ⌝ }
+{
+    let mut step = read_expression(text, from, count, rows, held);
+    step = ended(text, step, b"then");
+    match step {
+        Step::Faulty { start, end } => Step::Faulty { start, end },
+        Step::Next {
+            at: first,
+            count: tested,
+        } => {
+            step = read_block(text, first, tested, rows, held);
+            step = ended(text, step, b"else");
+            match step {
+                Step::Faulty { start, end } => Step::Faulty { start, end },
+                Step::Next {
+                    at: second,
+                    count: chosen,
+                } => {
+                    step = read_block(text, second, chosen, rows, held);
+                    step = ended(text, step, b"end");
+                    match step {
+                        Step::Faulty { start, end } => Step::Faulty { start, end },
+                        Step::Next { at, count: total } => {
+                            put_row(rows, total, 3, tested - 1, chosen - 1, total - 1);
+                            Step::Next {
+                                at,
+                                count: total + 1,
+                            }
+                        }
+                    }
+                }
+            }
+        }
+    }
+}
+
+// Reads a while after its first word.
+fn read_while(
+    text: &[u8],
+    from: usize,
+    count: u32,
+    rows: &mut [u32; TABLE_WORDS],
+    held: &mut [u32; MOST_TEXT],
+) -> Step
+    requires { ⌜ Asked (now text) from count (now rows) × (length (now held) ≡ mostTextBytes) ⌝ }
+    ensures { λ r. ⌜
+        After word.while (now (text .entry)) from count (now (rows .entry)) r (now (rows .exit))
+        × (length (now (held .exit)) ≡ mostTextBytes) ⌝ }
+{
+    let mut step = read_expression(text, from, count, rows, held);
+    step = ended(text, step, b"do");
+    match step {
+        Step::Faulty { start, end } => Step::Faulty { start, end },
+        Step::Next {
+            at: first,
+            count: tested,
+        } => {
+            step = read_block(text, first, tested, rows, held);
+            step = ended(text, step, b"end");
+            match step {
+                Step::Faulty { start, end } => Step::Faulty { start, end },
+                Step::Next { at, count: total } => {
+                    put_row(rows, total, 4, tested - 1, total - 1, 0);
+                    Step::Next {
+                        at,
+                        count: total + 1,
+                    }
+                }
+            }
+        }
+    }
+}
+
+// Reads the statement at a place, whose first row is to be this one.
+pub fn read_statement(
+    text: &[u8],
+    from: usize,
+    count: u32,
+    rows: &mut [u32; TABLE_WORDS],
+    held: &mut [u32; MOST_TEXT],
+) -> Step
+    requires { ⌜ Asked (now text) from count (now rows) × (length (now held) ≡ mostTextBytes) ⌝ }
+    ensures { λ r. ⌜
+        Stepped statements (statement ∷ []) (now (text .entry)) from count (now (rows .entry)) r (now (rows .exit))
+        × (length (now (held .exit)) ≡ mostTextBytes) ⌝ }
+{
+    let w = word_at(text, from);
+    let start = w.start;
+    let end = w.end;
+    let word = word_part(text, start, end);
+    if is_key(word, b"skip") {
+        put_row(rows, count, 0, 0, 0, 0);
+        return Step::Next {
+            at: end,
+            count: count + 1,
+        };
+    }
+    if is_key(word, b"set") {
+        return read_set(text, end, count, rows, held);
+    }
+    if is_key(word, b"if") {
+        return read_if(text, end, count, rows, held);
+    }
+    if is_key(word, b"while") {
+        return read_while(text, end, count, rows, held);
+    }
+    if is_key(word, b"settled") {
+        return read_output(text, end, count, 0, rows, held);
+    }
+    if is_key(word, b"provisional") {
+        return read_output(text, end, count, 1, rows, held);
+    }
+    Step::Faulty { start, end }
+}
+
+// Reads the block at a place: a statement, and where a semicolon follows a block after it.
+pub fn read_block(
+    text: &[u8],
+    from: usize,
+    count: u32,
+    rows: &mut [u32; TABLE_WORDS],
+    held: &mut [u32; MOST_TEXT],
+) -> Step
+    requires { ⌜ Asked (now text) from count (now rows) × (length (now held) ≡ mostTextBytes) ⌝ }
+    ensures { λ r. ⌜
+        BlockStepped (now (text .entry)) from count (now (rows .entry)) r (now (rows .exit))
+        × (length (now (held .exit)) ≡ mostTextBytes) ⌝ }
+{
+    let mut step = read_statement(text, from, count, rows, held);
+    match step {
+        Step::Faulty { start, end } => Step::Faulty { start, end },
+        Step::Next {
+            at: second,
+            count: stated,
+        } => {
+            let more = expect(text, second, b";");
+            match more {
+                Found::Faulty { .. } => Step::Next {
+                    at: second,
+                    count: stated,
+                },
+                Found::Next(third) => {
+                    step = read_block(text, third, stated, rows, held);
+                    match step {
+                        Step::Faulty { start, end } => Step::Faulty { start, end },
+                        Step::Next { at, count: total } => {
+                            put_row(rows, total, 2, stated - 1, total - 1, 0);
+                            Step::Next {
+                                at,
+                                count: total + 1,
+                            }
+                        }
+                    }
+                }
+            }
+        }
+    }
+}
