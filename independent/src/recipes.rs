@@ -101,6 +101,26 @@ fn place(part: &Part, backward: bool, words: &mut Vec<u32>) -> u32 {
     (words.len() / ROW_WORDS - 1) as u32
 }
 
+/// The recipes A to I and L to P, by their letters.
+pub fn lettered() -> [(&'static str, Part); 14] {
+    [
+        ("a", a()),
+        ("b", b()),
+        ("c", c()),
+        ("d", d()),
+        ("e", e()),
+        ("f", f()),
+        ("g", g()),
+        ("h", h()),
+        ("i", i()),
+        ("l", l()),
+        ("m", m()),
+        ("n", n()),
+        ("o", o()),
+        ("p", p()),
+    ]
+}
+
 /// "A. v2:=1; v1:=0; if v0 then v1:=1 else skip; if v1=0 then v2:=0 else skip;
 /// output settled v2."
 pub fn a() -> Part {

@@ -53,24 +53,8 @@ fn named_runs() -> Vec<Vector> {
 
 /// The level check of every named recipe: with v0 marked, with none and with all.
 fn named_checks() -> Vec<Vector> {
-    let recipes = [
-        ("a", a()),
-        ("b", b()),
-        ("c", c()),
-        ("d", d()),
-        ("e", e()),
-        ("f", f()),
-        ("g", g()),
-        ("h", h()),
-        ("i", i()),
-        ("l", l()),
-        ("m", m()),
-        ("n", n()),
-        ("o", o()),
-        ("p", p()),
-    ];
     let mut vectors = Vec::new();
-    for (name, recipe) in recipes {
+    for (name, recipe) in lettered() {
         let words = lay(&recipe);
         vectors.push(levels_case(name, &words, 1));
         vectors.push(levels_case(&format!("{name}-none-marked"), &words, 0));

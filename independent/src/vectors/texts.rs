@@ -108,24 +108,8 @@ fn expressions() -> Texts {
 }
 
 fn recipes_a_to_p() -> Texts {
-    let recipes = [
-        ("a", a()),
-        ("b", b()),
-        ("c", c()),
-        ("d", d()),
-        ("e", e()),
-        ("f", f()),
-        ("g", g()),
-        ("h", h()),
-        ("i", i()),
-        ("l", l()),
-        ("m", m()),
-        ("n", n()),
-        ("o", o()),
-        ("p", p()),
-    ];
     let text = |part| format!("in v0 provisional ; {}", written(&part));
-    recipes
+    lettered()
         .map(|(name, part)| (format!("recipe-{name}"), text(part)))
         .into()
 }
