@@ -3,7 +3,7 @@ use Prim.Native.Nat.{ℕ}
 use mathlib.Core.Bool.{false}
 use mathlib.Core.List.{List, [], _∷_}
 use mathlib.Core.Path.{_≡_}
-use lib.ListN.{length, replicate}
+use lib.ListN.{replicate}
 use Rattle.rules.specs.declared.Operator.{Operator}
 use Rattle.rules.specs.Trees.{constant, variable, binary}
 use Rattle.rules.specs.Cases.{Quad, wordsOf}

@@ -1,5 +1,5 @@
 -- What is claimed of texts and recipes, and every claim of this crate. Its one proof cites theirs, so that none of them can go missing.
-use Prim.Native.Nat.{ℕ, _≤_, _<_}
+use Prim.Native.Nat.{ℕ, _≤_}
 use mathlib.Core.Bool.{Bool}
 use mathlib.Core.List.{List}
 use mathlib.Core.Logic.{_⊎_}

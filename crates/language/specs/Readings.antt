@@ -1,6 +1,6 @@
 -- What a text reads as: a recipe; or a refusal, and the part of the text that is handed back.
-use Prim.Native.Nat.{ℕ, _+_, _≤_, _<_}
-use mathlib.Core.Bool.{Bool, true, false, cond}
+use Prim.Native.Nat.{ℕ, _≤_, _<_}
+use mathlib.Core.Bool.{Bool, true, false}
 use mathlib.Core.List.{List, [], _∷_, _++_}
 use mathlib.Core.Path.{_≡_}
 use lib.Dec.{leb}
@@ -14,7 +14,7 @@ use Rattle.language.specs.declared.Said.{Said}
 use Rattle.language.specs.Limits.{mostTextBytes, tooLong, faultyWord, declaredAgain, tooManyRows, tableTooShort}
 use Rattle.language.specs.Words.{Word, wordsFrom}
 use Rattle.language.specs.Tokens.{Token, tokenOf, tokens}
-use Rattle.language.specs.Recipes.{Level, plain, Declaration, Recipe, declarationTokens, recipeTokens}
+use Rattle.language.specs.Recipes.{Declaration, Recipe, declarationTokens, recipeTokens}
 use Rattle.language.specs.Tables.{blockSize, tableOf, marksOf}
 
 -- the words of a whole text

@@ -14,7 +14,7 @@ use Rattle.language.specs.Recipes.{Statement, Block, exprTokens, statementToken
 use Rattle.language.specs.Tables.{exprSize, statementSize, blockSize, exprRows, statementRows, blockRows}
 use Rattle.language.specs.Readings.{partAt}
 use Rattle.spans.specs.Cut.{from}
-use Rattle.reader.specs.Machine.{isWord, Closer, Symbol, expr, statement, rest, stuck, run}
+use Rattle.reader.specs.Machine.{isWord, Closer, Symbol, statement, rest, stuck, run}
 use Rattle.reader.specs.Rows.{tableWords, rowsPut}
 use Rattle.reader.specs.declared.expressions.Step.{Step}
 

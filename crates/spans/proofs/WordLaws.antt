@@ -11,7 +11,7 @@ use lib.Seq.{take-all}
 use borrow.Author.Tests.{leb-true, leb-false, le-leb, lt-leb, ltb-true, ltb-false, eq-eqb, ne-eqb}
 use Rattle.lines.specs.Numbers.{isDigit}
 use Rattle.lines.proofs.NumberLaws.{drop-next}
-use Rattle.language.specs.Words.{isBlank, isLetter, isJoining, Word, word, joins, grown, onByte, wordsFrom}
+use Rattle.language.specs.Words.{isBlank, isLetter, isJoining, word, joins, grown, onByte, wordsFrom}
 use Rattle.language.specs.Tokens.{same}
 use Rattle.language.specs.declared.Part.{Part}
 use Rattle.language.specs.Readings.{partAt}

@@ -1,7 +1,5 @@
 -- `levels::checked_at` meets its contract.
 use borrow.Author.Needs.{needs}
-use mathlib.Core.Path.{sym, ap}
-use Rattle.levels.specs.Found.{checkedAt}
 use Rattle.levels.proofs.FoundLaws.{checked-some}
 use Rattle.levels.proofs.checked_at.Statement.{statement}
 use Rattle.levels.proofs.checked_at.Tie as tie

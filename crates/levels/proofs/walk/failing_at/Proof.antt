@@ -1,6 +1,5 @@
 -- `levels::walk::failing_at` meets its contract.
 use borrow.Author.Needs.{needs}
-use native.Mathlib.Omega.{arith}
 use mathlib.Core.Path.{sym, _∙_}
 use Rattle.levels.proofs.FoundLaws.{passes-elsewhere, fails-guarded, passes-settled}
 use Rattle.levels.proofs.walk.failing_at.Statement.{statement}
