@@ -6,11 +6,11 @@ use mathlib.Core.Path.{_≡_, refl, sym, ap, ap₂, _∙_}
 use lib.ListN.{length, take, drop, replicate, length-append, length-drop, length-replicate}
 use lib.Seq.{take-at, length-take-le}
 use Rattle.rules.specs.declared.Answer.{Answer}
-use Rattle.rules.specs.Limits.{width, rowWords, recordWords, mostTraceWords}
+use Rattle.rules.specs.Limits.{width, rowWords, recordWords, mostTraceWords, tableWords}
 use Rattle.rules.specs.Running.{Record}
 use Rattle.rules.specs.Answers.{Whole, Inputs, inputs, answer, toldOf, telling, traceWordsOf, traceAfter, RunAnswers}
 use Rattle.rules.proofs.AnswerLaws.{trace-words-none, trace-words-cons, trace-after-law, told-said, told-steps, told-records, told-memory, told-marks}
-use Rattle.job.specs.Limits.{tableWords, mostRoom}
+use Rattle.job.specs.Limits.{mostRoom}
 use Rattle.job.specs.declared.Read.{Read}
 use Rattle.job.specs.declared.Reading.{Reading}
 use Rattle.job.specs.Jobs.{Told, told, untold, readJob}

@@ -7,11 +7,11 @@ use mathlib.Core.Path.{_≡_, refl, sym, ap, _∙_}
 use lib.ListN.{length, getD, take, drop, replicate, take-append-drop, drop-of-length-le, List·getD-eq-default}
 use lib.Seq.{length-take-le}
 use borrow.Author.Tests.{lt-ltb, le-ltb}
-use Rattle.rules.specs.Limits.{width, rowWords, mostRows, mostJobBytes}
+use Rattle.rules.specs.Limits.{width, rowWords, mostRows, mostJobBytes, tableWords}
 use Rattle.job.specs.declared.Read.{Read}
 use Rattle.job.specs.declared.Reading.{Reading}
 use Rattle.lines.specs.Limits.{mostWord, lacksForm}
-use Rattle.job.specs.Limits.{tableWords, tooLong}
+use Rattle.job.specs.Limits.{tooLong}
 use Rattle.lines.specs.Lines.{inKey, rowsKey, Line, line, faulty, lineOf, Lines, lines, broken, linesOf}
 use Rattle.job.specs.Jobs.{Told, told, untold, one, many, finish, head, firstInput, formAt, jobOf, rowLine, readTable, readLines, sized, readJob}
 use Rattle.job.specs.Read.{filled, ReadSaid, job, refused, saidOfRead, ReadingSaid, saidOfReading, reading}

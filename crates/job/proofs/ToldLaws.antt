@@ -7,9 +7,9 @@ use mathlib.Core.Path.{_≡_, refl, sym, ap, _∙_, subst}
 use lib.Dec.{leb, ltb}
 use lib.ListN.{length, getD, length-append}
 use borrow.Author.Tests.{leb-true}
-use Rattle.rules.specs.Limits.{rowWords, mostRows, mostJobBytes}
+use Rattle.rules.specs.Limits.{rowWords, mostRows, mostJobBytes, tableWords}
 use Rattle.lines.specs.Limits.{mostWord}
-use Rattle.job.specs.Limits.{mostRoom, tableWords}
+use Rattle.job.specs.Limits.{mostRoom}
 use Rattle.lines.specs.Numbers.{Number, noNumber, number}
 use Rattle.lines.specs.Lines.{lineEnd, afterKey, rowKeys, Fields, noFields, fields, field, put, onward, fieldsOf, Line, line, faulty, inRange, ended, lineOf, Lines, lines, broken, onLine, linesOf}
 use Rattle.job.specs.Jobs.{Job, Told, told, one, many, finish, head, formAt, numberLine, numberLines, jobOf, rowLine, readTable, readInputs, readLines, sized, readJob}

@@ -1,6 +1,6 @@
 -- The numbers of a job, each once, under a name.
-use Prim.Native.Nat.{ℕ, _*_}
-use Rattle.rules.specs.Limits.{width, rowWords, mostRows}
+use Prim.Native.Nat.{ℕ}
+use Rattle.rules.specs.Limits.{width}
 
 -- 9.4: .. `room=` with at most 8,192 records, ..
 abbrev pub mostRoom : ℕ
@@ -9,11 +9,6 @@ mostRoom = 8192
 -- 9.4: .. `inputs=` with at most 32.
 abbrev pub mostInputs : ℕ
 mostInputs = width
-
--- the words of the most rows that a job can have
--- 9.6: Then come the line `rows=` with at most 512, ..
-abbrev pub tableWords : ℕ
-tableWords = rowWords * mostRows
 
 -- 9.9: Refusal 9, at 0: the job is longer than 32,768 bytes.
 abbrev pub tooLong : ℕ

@@ -3,14 +3,13 @@ use Prim.Native.Nat.{ℕ, _-_, _/_}
 use mathlib.Core.Path.{_≡_}
 use mathlib.Core.List.{List, [], _∷_, _++_}
 use lib.ListN.{length, take, drop, replicate}
-use Rattle.rules.specs.Limits.{width, rowWords}
+use Rattle.rules.specs.Limits.{width, rowWords, tableWords}
 use Rattle.job.specs.declared.Key.{Key}
 use Rattle.job.specs.declared.Line.{Line}
 use Rattle.job.specs.declared.RowLine.{RowLine}
 use Rattle.job.specs.declared.Lines.{Lines}
 use Rattle.job.specs.declared.Read.{Read}
 use Rattle.job.specs.declared.Reading.{Reading}
-use Rattle.job.specs.Limits.{tableWords}
 use Rattle.job.specs.Jobs.{Told, told, untold}
 use Rattle.lines.specs.Lines as spec
 

@@ -6,16 +6,16 @@ use rules::MOST_ROWS;
 use rules::Marks;
 use rules::Memory;
 use rules::ROW_WORDS;
+use rules::TABLE_WORDS;
 use rules::VARIABLES;
 ghost use mathlib.Core.Path.{_≡_};
 ghost use mathlib.Core.List.{[], _∷_};
 ghost use Prim.Native.Nat.{_+_, _*_, _≤_};
 ghost use lib.ListN.{length, take, drop};
 ghost use lib.Seq.{sets};
-ghost use Rattle.rules.specs.Limits.{width, rowWords, mostRows};
+ghost use Rattle.rules.specs.Limits.{width, rowWords, mostRows, tableWords};
 ghost use Rattle.lines.specs.Limits.{mostWord};
 ghost use Rattle.numbers.specs.Read.{fieldSaid};
-ghost use Rattle.job.specs.Limits.{tableWords};
 ghost use Rattle.lines.specs.Lines.{afterKey, field, fields, ended, lineOf, linesOf};
 ghost use Rattle.job.specs.Jobs.{untold, firstInput, numberLine, numberLines, inputsOf, rowLine, readTable, readInputs, readJob};
 ghost use Rattle.job.specs.Read.{keySaid, lineSaid, rowSaid, LinesRead, filled, saidOfReading, reading};
@@ -24,8 +24,6 @@ ghost use Rattle.job.specs.Read.{keySaid, lineSaid, rowSaid, LinesRead, 
 pub const MOST_BYTES: usize = 32768;
 
 pub const MOST_ROOM: u64 = 8192;
-
-const TABLE_WORDS: usize = MOST_ROWS * ROW_WORDS;
 
 // The lines of the head, and the places of its numbers.
 const HEAD_LINES: usize = 4;

@@ -2,8 +2,6 @@
 pub mod Unambiguous
 pub mod OneAnswer
 pub mod KnownWords
-pub mod RightRows
-pub mod PartLaws
 pub mod RecipeRows
 pub mod TableLaws
 pub mod Evaluation

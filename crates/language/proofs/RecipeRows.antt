@@ -21,7 +21,7 @@ use Rattle.language.specs.Recipes.{Statement, skip, set, if, while, Bloc
 use Rattle.language.specs.Recipes as recipe
 use Rattle.language.specs.Tables.{exprBelow, exprSize, statementBelow, statementSize, blockBelow, blockSize, operatorNumber, exprRows, statementRows, blockRows, statementTree, blockTree}
 use Rattle.language.proofs.KnownWords.{AllKnown, known-first, known-rest}
-use Rattle.language.proofs.PartLaws.{rowFrom, made, Part, part-first, part-rest, part-row, part-within, Grown, own, join}
+use Rattle.rules.proofs.PartLaws.{rowFrom, made, Part, part-first, part-rest, part-row, part-within, Grown, own, join}
 
 -- ---- operators
 

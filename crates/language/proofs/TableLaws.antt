@@ -24,8 +24,8 @@ use Rattle.language.specs.Recipes.{Block, blockTokens}
 use Rattle.language.specs.Tables.{blockBelow, blockSize, blockRows, tableOf, blockTree}
 use Rattle.language.specs.Claims.{TableIsJudged, RowsAreTheTree}
 use Rattle.language.proofs.KnownWords.{AllKnown, text-known}
-use Rattle.language.proofs.RightRows.{right-words, right-children}
-use Rattle.language.proofs.PartLaws.{made, made-length, words-length, part-all, once}
+use Rattle.rules.proofs.RightRows.{right-words, right-children}
+use Rattle.rules.proofs.PartLaws.{made, made-length, words-length, part-all, once}
 use Rattle.language.proofs.RecipeRows.{BlockStands, block-stands}
 
 module _ (b : Block) (known : AllKnown (blockTokens b)) where

@@ -2,6 +2,7 @@
 use Prim.Native.Nat.{ℕ, _+_}
 use mathlib.Core.Bool.{Bool, true, false}
 use mathlib.Core.List.{List, [], _∷_, _++_}
+use Rattle.rules.specs.declared.Kind.{Kind}
 use Rattle.rules.specs.declared.Operator.{Operator}
 use Rattle.rules.specs.Marks.{none, put}
 use Rattle.rules.specs.Trees as tree
@@ -41,6 +42,21 @@ blockSize b = blockBelow b + 1
 
 -- ---- the rows of each, the first of them at row base; a child's rows come before its own, in reading order
 
+-- an unknown kind has no number, and stands in no row
+-- 2.2: The kinds have these numbers, and every other number is an unknown kind.
+abbrev pub kindNumber : Kind → ℕ
+kindNumber Kind.Skip = 0
+kindNumber Kind.Assign = 1
+kindNumber Kind.Sequence = 2
+kindNumber Kind.If = 3
+kindNumber Kind.While = 4
+kindNumber Kind.Output = 5
+kindNumber Kind.Constant = 8
+kindNumber Kind.Variable = 9
+kindNumber Kind.Binary = 10
+kindNumber Kind.Unknown = 11
+
+-- 2.7: The operators are 0 sum, 1 difference, 2 product, 3 quotient, 4 equal and 5 less.
 unfoldable pub operatorNumber : Operator → ℕ
 operatorNumber Operator.Sum = 0
 operatorNumber Operator.Difference = 1
@@ -50,32 +66,33 @@ operatorNumber Operator.Equal = 4
 operatorNumber Operator.Less = 5
 
 abbrev pub exprRows : ℕ → Expr → List Quad
-exprRows base (constant value) = (8, value, 0, 0) ∷ []
-exprRows base (variable v) = (9, v, 0, 0) ∷ []
+exprRows base (constant value) = (kindNumber Kind.Constant, value, 0, 0) ∷ []
+exprRows base (variable v) = (kindNumber Kind.Variable, v, 0, 0) ∷ []
 exprRows base (binary o a b) =
     exprRows base a
-    ++ (exprRows (base + exprSize a) b ++ (10, operatorNumber o, base + exprBelow a, base + exprSize a + exprBelow b) ∷ [])
+    ++ (exprRows (base + exprSize a) b ++ (kindNumber Kind.Binary, operatorNumber o, base + exprBelow a, base + exprSize a + exprBelow b) ∷ [])
 
 abbrev mutual
+  -- 2.8: Channel 0 is the settled one, which the stations read, and channel 1 the provisional one.
   pub statementRows : ℕ → Statement → List Quad
-  statementRows base skip = (0, 0, 0, 0) ∷ []
-  statementRows base (set v e) = exprRows base e ++ (1, v, base + exprBelow e, 0) ∷ []
+  statementRows base skip = (kindNumber Kind.Skip, 0, 0, 0) ∷ []
+  statementRows base (set v e) = exprRows base e ++ (kindNumber Kind.Assign, v, base + exprBelow e, 0) ∷ []
   statementRows base (if e s t) =
       exprRows base e
       ++ (blockRows (base + exprSize e) s
       ++ (blockRows (base + exprSize e + blockSize s) t
-      ++ (3, base + exprBelow e, base + exprSize e + blockBelow s, base + exprSize e + blockSize s + blockBelow t) ∷ []))
+      ++ (kindNumber Kind.If, base + exprBelow e, base + exprSize e + blockBelow s, base + exprSize e + blockSize s + blockBelow t) ∷ []))
   statementRows base (while e s) =
-      exprRows base e ++ (blockRows (base + exprSize e) s ++ (4, base + exprBelow e, base + exprSize e + blockBelow s, 0) ∷ [])
-  statementRows base (recipe.settled e) = exprRows base e ++ (5, 0, base + exprBelow e, 0) ∷ []
-  statementRows base (recipe.provisional e) = exprRows base e ++ (5, 1, base + exprBelow e, 0) ∷ []
+      exprRows base e ++ (blockRows (base + exprSize e) s ++ (kindNumber Kind.While, base + exprBelow e, base + exprSize e + blockBelow s, 0) ∷ [])
+  statementRows base (recipe.settled e) = exprRows base e ++ (kindNumber Kind.Output, 0, base + exprBelow e, 0) ∷ []
+  statementRows base (recipe.provisional e) = exprRows base e ++ (kindNumber Kind.Output, 1, base + exprBelow e, 0) ∷ []
 
   -- 13.10: .. a block of more than one statement is a sequence of its first statement and the block of the others.
   pub blockRows : ℕ → Block → List Quad
   blockRows base (one s) = statementRows base s
   blockRows base (more s b) =
       statementRows base s
-      ++ (blockRows (base + statementSize s) b ++ (2, base + statementBelow s, base + statementSize s + blockBelow b, 0) ∷ [])
+      ++ (blockRows (base + statementSize s) b ++ (kindNumber Kind.Sequence, base + statementBelow s, base + statementSize s + blockBelow b, 0) ∷ [])
 
 -- 13.10: In the table of a recipe the rows of a child come before its parent's, in reading order; a block of more than one
 -- statement is a sequence of its first statement and the block of the others.

@@ -9,13 +9,13 @@ use lib.Dec.{ltb}
 use lib.ListN.{length, take, drop, set as write, length-append}
 use lib.Seq.{sets, sets-eq, length-sets, length-take-le, take-at}
 use borrow.Author.Tests.{lt-ltb, le-ltb}
-use Rattle.rules.specs.Limits.{rowWords, mostRows}
+use Rattle.rules.specs.Limits.{rowWords, mostRows, tableWords}
 use Rattle.rules.specs.Trees.{Expr, constant, variable, binary}
 use Rattle.rules.specs.Cases.{Quad, wordsOf}
 use Rattle.language.specs.Recipes.{Statement, skip, set, if, while, Block, one, more}
 use Rattle.language.specs.Recipes as recipe
 use Rattle.language.specs.Tables.{exprSize, statementSize, blockSize, exprRows, statementRows, blockRows}
-use Rattle.reader.specs.Rows.{tableWords, rowPut, rowsPut}
+use Rattle.reader.specs.Rows.{rowPut, rowsPut}
 
 -- ---- one row
 

@@ -5,7 +5,7 @@ use mathlib.Core.Bool.{Bool, false, cond}
 use mathlib.Core.List.{List, [], _∷_, _++_, append-nil}
 use mathlib.Core.Path.{_≡_, refl, sym, ap, ap₂, _∙_, subst}
 use lib.ListN.{length, take}
-use Rattle.rules.specs.Limits.{rowWords, mostRows}
+use Rattle.rules.specs.Limits.{rowWords, mostRows, tableWords}
 use Rattle.rules.specs.Marks.{none}
 use Rattle.language.specs.declared.Part.{Part}
 use Rattle.language.specs.declared.Said.{Said}
@@ -20,7 +20,6 @@ use Rattle.spans.specs.declared.Span.{Span}
 use Rattle.spans.specs.Cut.{from, Cut}
 use Rattle.spans.proofs.WordLaws.{cut-part}
 use Rattle.reader.specs.Machine.{isWord, atFinish, statement, rest, start, name, level, Advance, stop, go, also, onStatement, closing, onRest, onStart, stuck, onward, run}
-use Rattle.reader.specs.Rows.{tableWords}
 use Rattle.reader.specs.Steps.{blocks, Read, Stuck, Over}
 use Rattle.reader.specs.Heads.{HeadRead}
 use Rattle.reader.specs.Wholes.{turnedAway, answered, Made}

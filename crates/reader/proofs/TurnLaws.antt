@@ -18,7 +18,8 @@ use Rattle.spans.specs.Cut.{part, Cut}
 use Rattle.spans.specs.declared.Span.{Span}
 use Rattle.reader.specs.Machine.{tag, isWord, isVariable, isNumeral, isSign, Symbol, expr, stop, advance, onExpr, expected, mayEnd, run}
 use Rattle.reader.specs.Atoms.{atomOf, signNumber}
-use Rattle.reader.specs.Rows.{tableWords, rowPut, rowsPut}
+use Rattle.rules.specs.Limits.{tableWords}
+use Rattle.reader.specs.Rows.{rowPut, rowsPut}
 use Rattle.reader.specs.Steps.{Asked, Stuck, Read, expressions}
 use Rattle.reader.specs.Statements.{Led}
 use Rattle.reader.specs.Frames.{Frame, waiting, having, Whole, nothing, just, framesTokens, wholeTokens, Ready, Standing, Reached, Turned}

@@ -17,7 +17,7 @@ use Rattle.language.specs.Words.{Word}
 use Rattle.language.specs.Recipes.{Recipe}
 use Rattle.language.specs.Tables.{blockSize, blockRows, tableOf, marksOf}
 use Rattle.language.specs.Readings.{wordsOf, endOf, partAt, repeated, refused, laid, judged, sized, declared, readingOf}
-use Rattle.language.proofs.PartLaws.{words-length}
+use Rattle.rules.proofs.PartLaws.{words-length}
 use Rattle.reader.specs.Heads.{StandsAt}
 use Rattle.reader.specs.Wholes.{turnedAway, answered, Made}
 use Rattle.reader.specs.declared.head.Seen.{Seen}

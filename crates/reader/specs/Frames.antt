@@ -14,7 +14,8 @@ use Rattle.language.specs.Recipes.{exprTokens}
 use Rattle.language.specs.Tables.{exprBelow, exprSize, operatorNumber, exprRows}
 use Rattle.spans.specs.Cut.{from}
 use Rattle.reader.specs.Machine.{expr}
-use Rattle.reader.specs.Rows.{tableWords, rowsPut}
+use Rattle.rules.specs.Limits.{tableWords}
+use Rattle.reader.specs.Rows.{rowsPut}
 use Rattle.reader.specs.Steps.{Later, Stuck}
 use Rattle.reader.specs.declared.expressions.Inside.{Inside}
 use Rattle.reader.specs.declared.expressions.Turn.{Turn}

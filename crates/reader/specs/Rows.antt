@@ -7,9 +7,6 @@ use lib.Seq.{sets}
 use Rattle.rules.specs.Limits.{rowWords, mostRows}
 use Rattle.rules.specs.Cases.{Quad, wordsOf}
 
-abbrev pub tableWords : ℕ
-tableWords = rowWords * mostRows
-
 unfoldable pub rowPut : ℕ → Quad → List ℕ → List ℕ
 rowPut row quad table = cond (ltb row mostRows) (sets table (row * rowWords) (wordsOf (quad ∷ []))) table
 

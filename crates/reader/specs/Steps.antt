@@ -15,7 +15,8 @@ use Rattle.language.specs.Tables.{exprSize, statementSize, blockSize, exprRows,
 use Rattle.language.specs.Readings.{partAt}
 use Rattle.spans.specs.Cut.{from}
 use Rattle.reader.specs.Machine.{isWord, Closer, Symbol, statement, rest, stuck, run}
-use Rattle.reader.specs.Rows.{tableWords, rowsPut}
+use Rattle.rules.specs.Limits.{tableWords}
+use Rattle.reader.specs.Rows.{rowsPut}
 use Rattle.reader.specs.declared.expressions.Step.{Step}
 
 -- what a reader of one sort of part needs to know of it: its words, its rows from a row on, and how many they are

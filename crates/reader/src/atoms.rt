@@ -1,5 +1,6 @@
 // What a word is in an expression.
 use numbers::Field;
+use numbers::MOST_WORD;
 use numbers::number_at;
 use rules::VARIABLES;
 use rules::WORD_VALUES;
@@ -52,7 +53,7 @@ pub fn atom_of(word: &[u8]) -> Atom
         }
         return Atom::Variable(variable as u32);
     }
-    let value = number_from(word, 0, WORD_VALUES - 1);
+    let value = number_from(word, 0, MOST_WORD);
     if value == WORD_VALUES {
         return Atom::Nothing;
     }

@@ -4,8 +4,11 @@ use crate::atoms::Atom;
 use crate::atoms::NO_SIGN;
 use crate::atoms::atom_of;
 use crate::atoms::sign_of;
-use crate::put::TABLE_WORDS;
+use crate::put::BINARY;
+use crate::put::CONSTANT;
+use crate::put::VARIABLE;
 use crate::put::put_row;
+use rules::TABLE_WORDS;
 use spans::is_key;
 use spans::word_at;
 use spans::word_part;
@@ -14,12 +17,16 @@ ghost use mathlib.Core.List.{[], _∷_};
 ghost use mathlib.Core.Path.{_≡_};
 ghost use Prim.Native.Nat.{_+_, _*_, _≤_};
 ghost use lib.ListN.{length};
+ghost use Rattle.rules.specs.Limits.{highestOperator};
 ghost use Rattle.language.specs.Limits.{mostTextBytes};
 ghost use Rattle.reader.specs.Machine.{expr};
 ghost use Rattle.reader.specs.Steps.{Asked, Stepped, expressions};
 ghost use Rattle.reader.specs.Frames.{Ready, Turned};
 
 pub const MOST_TEXT: usize = 16384;
+
+// An entry has room for so many operators beside a row.
+const SIGNS: u32 = 8;
 
 // The place after what was read, and how many rows there are; or the word that is at fault.
 pub enum Step {
@@ -44,10 +51,10 @@ enum Turn {
 
 // The entry of a left side's row and an operator.
 fn entry_of(row: u32, sign: u32) -> u32
-    requires { ⌜ (row ≤ mostTextBytes) × (sign ≤ 5) ⌝ }
+    requires { ⌜ (row ≤ mostTextBytes) × (sign ≤ highestOperator) ⌝ }
     ensures { λ r. ⌜ r ≡ row * 8 + sign + 1 ⌝ }
 {
-    row * 8 + sign + 1
+    row * SIGNS + sign + 1
 }
 
 // Reads a word where an expression begins: a parenthesis, a number or a variable.
@@ -75,7 +82,7 @@ fn begin(text: &[u8], s: Inside, rows: &mut [u32; TABLE_WORDS], held: &mut [u32;
     match atom {
         Atom::Nothing => Turn::Faulty { start, end },
         Atom::Constant(value) => {
-            put_row(rows, count, 8, value, 0, 0);
+            put_row(rows, count, CONSTANT, value, 0, 0);
             Turn::Went(Inside {
                 at: end,
                 count: count + 1,
@@ -84,7 +91,7 @@ fn begin(text: &[u8], s: Inside, rows: &mut [u32; TABLE_WORDS], held: &mut [u32;
             })
         }
         Atom::Variable(variable) => {
-            put_row(rows, count, 9, variable, 0, 0);
+            put_row(rows, count, VARIABLE, variable, 0, 0);
             Turn::Went(Inside {
                 at: end,
                 count: count + 1,
@@ -127,7 +134,14 @@ fn go_on(text: &[u8], s: Inside, rows: &mut [u32; TABLE_WORDS], held: &mut [u32;
     if !is_key(word, b")") {
         return Turn::Faulty { start, end };
     }
-    put_row(rows, count, 10, (entry - 1) % 8, (entry - 1) / 8, count - 1);
+    put_row(
+        rows,
+        count,
+        BINARY,
+        (entry - 1) % SIGNS,
+        (entry - 1) / SIGNS,
+        count - 1,
+    );
     Turn::Went(Inside {
         at: end,
         count: count + 1,

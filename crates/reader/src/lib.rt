@@ -10,7 +10,6 @@ use crate::expressions::Step;
 use crate::head::Head;
 use crate::head::Seen;
 use crate::head::read_head;
-use crate::put::TABLE_WORDS;
 use crate::statements::read_block;
 use language::Part;
 use language::Said;
@@ -18,6 +17,7 @@ use leaves::copy::copy_words;
 use rules::Judged;
 use rules::MOST_ROWS;
 use rules::ROW_WORDS;
+use rules::TABLE_WORDS;
 use spans::word_at;
 use table::judge;
 ghost use mathlib.Core.Bool.{false};
@@ -28,7 +28,7 @@ ghost use Rattle.language.specs.Limits.{mostTextBytes};
 ghost use Rattle.language.specs.Readings.{Reads};
 ghost use Rattle.reader.specs.declared.head.Head.{Head};
 ghost use Rattle.reader.specs.Heads.{HeadRead};
-ghost use Rattle.reader.specs.Rows.{tableWords};
+ghost use Rattle.rules.specs.Limits.{tableWords};
 ghost use Rattle.reader.specs.Wholes.{turnedAway, answered, Made};
 
 const TOO_LONG: u32 = 9;
@@ -131,6 +131,7 @@ fn read_body(
 }
 
 // Reads a recipe's text into a table: how many rows it has and its start marks; or a refusal, and then the table is as it was lent.
+// 13.8: .. neither means settled.
 pub fn read_text(text: &[u8], table: &mut [u32]) -> Said
     ensures { λ r. ⌜ Reads false (now (text .entry)) (now (table .entry)) (answered r (now (table .exit))) ⌝ }
 {

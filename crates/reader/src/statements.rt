@@ -4,8 +4,14 @@ use crate::atoms::atom_of;
 use crate::expressions::MOST_TEXT;
 use crate::expressions::Step;
 use crate::expressions::read_expression;
-use crate::put::TABLE_WORDS;
+use crate::put::ASSIGN;
+use crate::put::IF;
+use crate::put::OUTPUT;
+use crate::put::SEQUENCE;
+use crate::put::SKIP;
+use crate::put::WHILE;
 use crate::put::put_row;
+use rules::TABLE_WORDS;
 use spans::is_key;
 use spans::word_at;
 use spans::word_part;
@@ -17,6 +23,11 @@ ghost use Rattle.language.specs.Tokens as word;
 ghost use Rattle.reader.specs.Machine.{statement};
 ghost use Rattle.reader.specs.Steps.{statements, Asked, Stepped, BlockStepped};
 ghost use Rattle.reader.specs.Statements.{Looked, Ended, After, OutputAfter};
+
+// 2.8: Channel 0 is the settled one, which the stations read, and channel 1 the provisional one.
+const SETTLED: u32 = 0;
+
+const PROVISIONAL: u32 = 1;
 
 // The place after a word; or the span of another word that stands there.
 pub enum Found {
@@ -71,7 +82,7 @@ fn read_output(
     match shown {
         Step::Faulty { start, end } => Step::Faulty { start, end },
         Step::Next { at, count: total } => {
-            put_row(rows, total, 5, channel, total - 1, 0);
+            put_row(rows, total, OUTPUT, channel, total - 1, 0);
             Step::Next {
                 at,
                 count: total + 1,
@@ -109,7 +120,7 @@ fn read_set(
                     match assigned {
                         Step::Faulty { start, end } => Step::Faulty { start, end },
                         Step::Next { at, count: total } => {
-                            put_row(rows, total, 1, variable, total - 1, 0);
+                            put_row(rows, total, ASSIGN, variable, total - 1, 0);
                             Step::Next {
                                 at,
                                 count: total + 1,
@@ -156,7 +167,7 @@ fn read_if(
                     match step {
                         Step::Faulty { start, end } => Step::Faulty { start, end },
                         Step::Next { at, count: total } => {
-                            put_row(rows, total, 3, tested - 1, chosen - 1, total - 1);
+                            put_row(rows, total, IF, tested - 1, chosen - 1, total - 1);
                             Step::Next {
                                 at,
                                 count: total + 1,
@@ -195,7 +206,7 @@ fn read_while(
             match step {
                 Step::Faulty { start, end } => Step::Faulty { start, end },
                 Step::Next { at, count: total } => {
-                    put_row(rows, total, 4, tested - 1, total - 1, 0);
+                    put_row(rows, total, WHILE, tested - 1, total - 1, 0);
                     Step::Next {
                         at,
                         count: total + 1,
@@ -224,7 +235,7 @@ pub fn read_statement(
     let end = w.end;
     let word = word_part(text, start, end);
     if is_key(word, b"skip") {
-        put_row(rows, count, 0, 0, 0, 0);
+        put_row(rows, count, SKIP, 0, 0, 0);
         return Step::Next {
             at: end,
             count: count + 1,
@@ -240,10 +251,10 @@ pub fn read_statement(
         return read_while(text, end, count, rows, held);
     }
     if is_key(word, b"settled") {
-        return read_output(text, end, count, 0, rows, held);
+        return read_output(text, end, count, SETTLED, rows, held);
     }
     if is_key(word, b"provisional") {
-        return read_output(text, end, count, 1, rows, held);
+        return read_output(text, end, count, PROVISIONAL, rows, held);
     }
     Step::Faulty { start, end }
 }
@@ -279,7 +290,7 @@ pub fn read_block(
                     match step {
                         Step::Faulty { start, end } => Step::Faulty { start, end },
                         Step::Next { at, count: total } => {
-                            put_row(rows, total, 2, stated - 1, total - 1, 0);
+                            put_row(rows, total, SEQUENCE, stated - 1, total - 1, 0);
                             Step::Next {
                                 at,
                                 count: total + 1,

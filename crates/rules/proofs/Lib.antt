@@ -4,6 +4,8 @@ pub mod RowLaws
 pub mod JudgeLaws
 pub mod Lowest
 pub mod RefusalLaws
+pub mod RightRows
+pub mod PartLaws
 pub mod TreeLaws
 pub mod StatementLaws
 pub mod ValueLaws

@@ -1,5 +1,5 @@
 -- The numbers of the rules, each once, under a name.
-use Prim.Native.Nat.{ℕ}
+use Prim.Native.Nat.{ℕ, _*_}
 
 -- 1.1: A value is a whole number from 0 to 4,294,967,295, and so is a word of a table: 32 bits.
 abbrev pub wordBits : ℕ
@@ -17,6 +17,10 @@ rowWords = 4
 -- 4.1: Refusal 1, at 0: .. there are more than 512.
 abbrev pub mostRows : ℕ
 mostRows = 512
+
+-- the words of the most rows
+abbrev pub tableWords : ℕ
+tableWords = rowWords * mostRows
 
 -- 4.2: Refusal 2, at the row: .. a channel over 1 ..
 abbrev pub highestChannel : ℕ

@@ -13,6 +13,9 @@ pub const ROW_WORDS: usize = 4;
 // 4.1: Refusal 1, at 0: .. there are more than 512.
 pub const MOST_ROWS: usize = 512;
 
+// the words of the most rows
+pub const TABLE_WORDS: usize = MOST_ROWS * ROW_WORDS;
+
 // 4.5: Refusal 5, at the row: .. its nesting over 8 ..
 pub const MOST_NESTING: u8 = 8;
 

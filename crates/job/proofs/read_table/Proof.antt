@@ -4,8 +4,7 @@ use mathlib.Core.List.{[], _∷_}
 use mathlib.Core.Path.{refl, sym, ap, _∙_}
 use lib.ListN.{take, drop}
 use denote.Ref.{now}
-use Rattle.rules.specs.Limits.{rowWords, mostRows}
-use Rattle.job.specs.Limits.{tableWords}
+use Rattle.rules.specs.Limits.{rowWords, mostRows, tableWords}
 use Rattle.job.specs.Jobs.{firstInput, inputsOf}
 use Rattle.lines.specs.Lines.{rowsKey}
 use Rattle.job.specs.Read.{lineSaid, linesSaid, reading}

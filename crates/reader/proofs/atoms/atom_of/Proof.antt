@@ -47,9 +47,6 @@ returns-3 c =
     told-some Atom.Variable (number .result) (c .if3 .left)
     ∙ atom-variable word (at-some .if1 .left) (at-v .if2 .taken) (number .result) (number .ensures)
 
-sub-number-from-2 : tie.Need-sub-number-from-2
-sub-number-from-2 c = search needs
-
 number-from-requires-2 : tie.Need-number-from-requires-2
 number-from-requires-2 c κs = search needs
 
@@ -62,8 +59,8 @@ returns-4 c =
     told-none Atom.Constant (number .result) (c .if4 .taken)
     ∙ atom-constant word (at-some .if1 .left) (at-v .if2 .left) (number .result) (number .ensures)
 
-cast-t13 : tie.Need-cast-t13
-cast-t13 c =
+cast-t12 : tie.Need-cast-t12
+cast-t12 c =
     let word = now (c .before .before .before .before .before .before .args .word) in
     omega (arith, whole-most mostWord (drop 0 word) (c .before .number-from2 .result) (c .before .number-from2 .ensures) (c .if4 .left))
 
@@ -87,8 +84,7 @@ atom-of-spec =
     returns-2
     cast-t11
     returns-3
-    sub-number-from-2
     number-from-requires-2
     returns-4
-    cast-t13
+    cast-t12
     returns-5)
