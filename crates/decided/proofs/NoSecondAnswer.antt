@@ -11,6 +11,7 @@ use Rattle.job.proofs.JobLaws.{reading-unique}
 use Rattle.report.proofs.ReportLaws.{wrote-unique}
 use Rattle.spans.proofs.WordLaws.{cut-once}
 use Rattle.language.proofs.OneAnswer.{one-answer}
+use Rattle.embed.proofs.CallLaws.{read-once}
 use Rattle.decided.specs.NoSecondAnswer.{NoSecondAnswer}
 
 -- two that are equal to a third
@@ -67,4 +68,5 @@ no-second-answer = record {
   buzorinde-judge = λ _ _ _ _ _ _ e f. let c = same (sym e) (sym f) in (λ i. c i .status, λ i. (tt, (c i .answer, tt)));
   buzorinde-check = λ _ _ _ _ _ _ e f. let c = same (sym e) (sym f) in (λ i. c i .status, λ i. (tt, (tt, (c i .answer, tt))));
   buzorinde-run = λ _ _ _ _ _ _ e f. let c = same (sym e) (sym f) in (λ i. c i .status, λ i. (tt, (c i .memory, (tt, (tt, (c i .trace, (c i .answer, tt)))))));
+  buzorinde-read = λ _ _ _ _ _ _ e f. let c = read-once e f in (λ i. c i .status, λ i. (tt, (c i .table, (c i .answer, tt))));
 }

@@ -31,6 +31,7 @@ use Rattle.reader.proofs.read_text
 use Rattle.embed.proofs.buzorinde_judge
 use Rattle.embed.proofs.buzorinde_check
 use Rattle.embed.proofs.buzorinde_run
+use Rattle.embed.proofs.buzorinde_read
 use Rattle.decided.specs.Decided.{Decided}
 
 pub record NoSecondAnswer : Type 0 where
@@ -76,3 +77,4 @@ pub record NoSecondAnswer : Type 0 where
   pub buzorinde-judge : Decided buzorinde_judge.signature buzorinde_judge.Reads.Learnt
   pub buzorinde-check : Decided buzorinde_check.signature buzorinde_check.Reads.Learnt
   pub buzorinde-run : Decided buzorinde_run.signature buzorinde_run.Reads.Learnt
+  pub buzorinde-read : Decided buzorinde_read.signature buzorinde_read.Reads.Learnt

@@ -1,5 +1,5 @@
 -- What a call answers, from whether a buffer is too short and from what the proved functions answered.
-use Prim.Native.Nat.{ℕ, suc, _+_, _-_, _≤_, _<_}
+use Prim.Native.Nat.{ℕ, suc, _+_, _-_, _%_, _^_, _≤_, _<_}
 use mathlib.Core.Bool.{Bool, true, false}
 use mathlib.Core.List.{List, [], _∷_, _++_}
 use mathlib.Core.Path.{_≡_, refl, sym, ap, ap₂, subst, _∙_}
@@ -11,11 +11,14 @@ use lib.Seq.{sets, sets-eq, take-append-seam, drop-append-add, drop-drop, take-a
 use borrow.Author.Tests.{lt-ltb, le-ltb}
 use Rattle.rules.specs.declared.Advice.{Advice}
 use Rattle.rules.specs.declared.Answer.{Answer}
-use Rattle.rules.specs.Limits.{width}
+use Rattle.rules.specs.Limits.{width, wordBits}
 use Rattle.rules.specs.Answers.{Said, Whole, Inputs, inputs, Advised, advisedOf, judgement, advice, answer, traceAfter, saidOfRun, saidOfCheck, toldOf, telling, RunAnswers}
 use Rattle.rules.proofs.AnswerLaws.{told-said, told-steps, told-records, told-memory, told-marks}
+use Rattle.language.specs.declared.Said as language
+use Rattle.language.specs.Readings.{handed, Reading, Reads}
+use Rattle.language.proofs.OneAnswer.{one-answer}
 use Rattle.embed.specs.declared.Numbers.{Numbers}
-use Rattle.embed.specs.Calls.{numbersOf, saidWords, runWords, laid, answered, answerTooShort, memoryTooShort, judgeLength, runLength, callBy, judgeCall, checkWords, checkLength, checkCall, ranCall, runCallBy, runCall, firstWords}
+use Rattle.embed.specs.Calls.{numbersOf, saidWords, runWords, laid, answered, answerTooShort, memoryTooShort, judgeLength, runLength, callBy, judgeCall, checkWords, checkLength, checkCall, ranCall, runCallBy, runCall, firstWords, readWords, readLength, ReadCall, ReadCalls, short, reads}
 
 -- words laid over a buffer, and more stored after them
 pub laid-more : (words more buffer : List ℕ) → length words + length more ≤ length buffer
@@ -110,3 +113,26 @@ module _ (i : Inputs) (buffer : List ℕ) where
             trace = traceAfter (w .records) (i .trace);
             answer = laid (saidWords (numbersOf (s j)) ++ n j ∷ r j ∷ k j ∷ []) buffer;
           }
+
+-- ---- a reading
+
+-- what was said, told by numbers that are known by equations
+pub read-answered :
+    (text table buffer left after part : List ℕ) (s : language.Said) (n : Numbers) (start size : ℕ) → readLength ≤ length buffer
+    → Reads false text table (record { said = s; table = left }) → part ≡ handed text (s .part)
+    → n ≡ record { refusal = s .refusal; verdict = 0; row = s .at } → start ≡ s .part .start % 2 ^ wordBits → size ≡ length part % 2 ^ wordBits
+    → after ≡ laid (saidWords n ++ s .rows ∷ start ∷ size ∷ s .marks ∷ []) buffer
+    → ReadCalls text table buffer (record { status = answered; table = left; answer = after })
+read-answered text table buffer left after part s n start size h r p e f g a =
+    let long = g ∙ ap (λ (l : List ℕ). length l % 2 ^ wordBits) p in
+    let told : after ≡ laid (readWords text s) buffer = a ∙ (λ i. laid (saidWords (e i) ++ s .rows ∷ f i ∷ long i ∷ s .marks ∷ []) buffer) in
+    subst (λ (l : List ℕ). ReadCalls text table buffer (record { status = answered; table = left; answer = l })) (sym told) (reads h _ r)
+
+-- a call comes to one end
+pub read-once : {text table buffer : List ℕ} {a b : ReadCall} → ReadCalls text table buffer a → ReadCalls text table buffer b → a ≡ b
+read-once (short h) (short k) = refl
+read-once (short h) (reads k r x) = absurd (omega arith)
+read-once (reads h r x) (short k) = absurd (omega arith)
+read-once {text} {table} {buffer} (reads h r x) (reads k s y) =
+    ap (λ (z : Reading). record { status = answered; table = z .table; answer = laid (readWords text (z .said)) buffer })
+    (one-answer false text table r s x y)

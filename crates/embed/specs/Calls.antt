@@ -1,11 +1,13 @@
 -- Section 11 of the rules: what a call from C or Rust answers, and what the buffers that it was lent hold afterwards.
-use Prim.Native.Nat.{ℕ}
+use Prim.Native.Nat.{ℕ, _%_, _^_, _≤_, _<_}
 use mathlib.Core.Bool.{Bool, true, false}
 use mathlib.Core.List.{List, [], _∷_, _++_}
 use lib.Dec.{ltb}
 use lib.ListN.{length, take, drop}
-use Rattle.rules.specs.Limits.{width}
+use Rattle.rules.specs.Limits.{width, wordBits}
 use Rattle.rules.specs.Answers.{Said, accepted, refused, verdict, pass, fail, Whole, Inputs, inputs, Advised, judgement, advice, answer, traceAfter}
+use Rattle.language.specs.declared.Said as language
+use Rattle.language.specs.Readings.{handed, Reading, Reads}
 use Rattle.embed.specs.declared.Numbers.{Numbers}
 
 -- 11.2: An answer begins with the refusal's number or 0, the verdict, and the refusal's row or the run's place; a check
@@ -24,9 +26,15 @@ saidWords n = n .refusal ∷ n .verdict ∷ n .row ∷ []
 abbrev pub runWords : Whole → List ℕ
 runWords w = saidWords (numbersOf (w .said)) ++ w .steps ∷ length (w .records) ∷ w .marks ∷ []
 
--- 11.3: .. a check's answer the marks.
+-- 11.3: .. a check's answer the marks, ..
 abbrev pub checkWords : Advised → List ℕ
 checkWords a = saidWords (numbersOf (a .said)) ++ a .marks ∷ []
+
+-- 11.3: .. a reading's answer the number of rows, start and length of the part that is handed back, each modulo 2^32, and the marks.
+abbrev pub readWords : List ℕ → language.Said → List ℕ
+readWords text s =
+    saidWords (record { refusal = s .refusal; verdict = 0; row = s .at })
+    ++ s .rows ∷ s .part .start % 2 ^ wordBits ∷ length (handed text (s .part)) % 2 ^ wordBits ∷ s .marks ∷ []
 
 -- Words laid over the first words of a buffer.
 -- 11.4: The words of a buffer after those that a call writes keep what they held.
@@ -53,6 +61,9 @@ checkLength = 4
 
 abbrev pub runLength : ℕ
 runLength = 6
+
+abbrev pub readLength : ℕ
+readLength = 7
 
 -- ---- the judge and the level check
 
@@ -103,3 +114,19 @@ runCallBy false false i buffer = ranCall (answer (firstWords i)) i buffer
 -- the inputs' memory is as it is lent, of any length
 abbrev pub runCall : Inputs → List ℕ → RunCall
 runCall i buffer = runCallBy (ltb (length buffer) runLength) (ltb (length (i .memory)) width) i buffer
+
+-- ---- a reading
+
+pub record ReadCall : Type 0 where
+  pub status : ℕ
+  pub table : List ℕ
+  pub answer : List ℕ
+
+-- The answer's buffer is too short; or the text reads as this.
+-- 13.8: .. neither means settled.
+pub data ReadCalls (text table buffer : List ℕ) : ReadCall → Type 0 where
+  short :
+      length buffer < readLength → ReadCalls text table buffer (record { status = answerTooShort; table = table; answer = buffer })
+  reads :
+      readLength ≤ length buffer → (r : Reading) → Reads false text table r
+      → ReadCalls text table buffer (record { status = answered; table = r .table; answer = laid (readWords text (r .said)) buffer })

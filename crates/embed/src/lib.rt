@@ -1,18 +1,22 @@
 // The functions for C and Rust: numbers and slices only. What they answer is laid over the first words of a buffer that the
 // caller lends; a buffer that is too short is refused with a number of its own, and then nothing has changed.
 use leaves::copy::copy_words;
+use reader::read_text;
 use rules::Checked;
 use rules::Ended;
 use rules::Judged;
 use rules::Marks;
 use rules::Memory;
 use rules::VARIABLES;
+use rules::WORD_VALUES;
+use spans::handed_back;
 ghost use mathlib.Core.Path.{_≡_};
 ghost use mathlib.Core.List.{[], _∷_, _++_};
-ghost use Prim.Native.Nat.{_≤_};
+ghost use Prim.Native.Nat.{_%_, _^_, _≤_};
 ghost use lib.ListN.{length};
+ghost use Rattle.rules.specs.Limits.{wordBits};
 ghost use Rattle.rules.specs.Answers.{inputs, saidOfJudge, saidOfRun, saidOfCheck};
-ghost use Rattle.embed.specs.Calls.{numbersOf, saidWords, laid, judgeLength, checkLength, runLength, judgeCall, checkCall, runCall};
+ghost use Rattle.embed.specs.Calls.{numbersOf, saidWords, laid, judgeLength, checkLength, runLength, readLength, judgeCall, checkCall, runCall, ReadCalls};
 
 // What a call returns: that it has answered, or which buffer was too short.
 const ANSWERED: u32 = 0;
@@ -27,6 +31,8 @@ const JUDGE_WORDS: usize = 3;
 const CHECK_WORDS: usize = 4;
 
 const RUN_WORDS: usize = 6;
+
+const READ_WORDS: usize = 7;
 
 // The first three words of every answer: the refusal's number or 0; the verdict; the place, or the refusal's row.
 pub struct Numbers {
@@ -121,6 +127,26 @@ fn put_run(answer: &mut [u32], numbers: Numbers, steps: u32, records: u32, marks
     answer[5] = marks;
 }
 
+// A number of bytes as a word.
+fn word_of(bytes: usize) -> u32
+    ensures { λ r. ⌜ r ≡ bytes % 2 ^ wordBits ⌝ }
+{
+    (bytes as u64 % WORD_VALUES) as u32
+}
+
+// Lays a reading's numbers, rows, part and marks over the first words of the answer.
+fn put_read(answer: &mut [u32], numbers: Numbers, rows: u32, start: u32, size: u32, marks: Marks)
+    requires { ⌜ readLength ≤ length (now answer) ⌝ }
+    ensures { λ _. ⌜
+        now (answer .exit) ≡ laid (saidWords numbers ++ rows ∷ start ∷ size ∷ marks ∷ []) (now (answer .entry)) ⌝ }
+{
+    put_numbers(answer, numbers);
+    answer[3] = rows;
+    answer[4] = start;
+    answer[5] = size;
+    answer[6] = marks;
+}
+
 // The judge. The answer's three words are the refusal's number or 0, 0, and the refusal's row.
 #[no_mangle]
 pub extern "C" fn buzorinde_judge(table: &[u32], answer: &mut [u32]) -> u32
@@ -186,6 +212,31 @@ pub extern "C" fn buzorinde_run(
         reached.steps,
         reached.records,
         reached.marks,
+    );
+    ANSWERED
+}
+
+// Reads a recipe's text into a table. The answer's seven words are the refusal's number or 0, 0, the refusal's row, how many rows
+// the table begins with, start and length of the part of the text that is handed back, and the start marks.
+#[no_mangle]
+pub extern "C" fn buzorinde_read(text: &[u8], table: &mut [u32], answer: &mut [u32]) -> u32
+    ensures { λ r. ⌜
+        ReadCalls (now (text .entry)) (now (table .entry)) (now (answer .entry))
+        (record { status = r; table = now (table .exit); answer = now (answer .exit) }) ⌝ }
+{
+    if answer.len() < READ_WORDS {
+        return ANSWER_TOO_SHORT;
+    }
+    let said = read_text(text, table);
+    let part = said.part;
+    let size = handed_back(text, part).len();
+    put_read(
+        answer,
+        refused_numbers(said.refusal, said.at),
+        said.rows,
+        word_of(part.start),
+        word_of(size),
+        said.marks,
     );
     ANSWERED
 }

@@ -4,7 +4,7 @@ use mathlib.Core.Bool.{Bool, true, false}
 use mathlib.Core.List.{List, [], _∷_, _++_}
 use mathlib.Core.Path.{_≡_}
 use lib.Dec.{leb}
-use lib.ListN.{length, drop}
+use lib.ListN.{length, take, drop}
 use Rattle.rules.specs.declared.Judged.{Judged}
 use Rattle.rules.specs.Limits.{mostRows}
 use Rattle.rules.specs.Marks.{none, has, put}
@@ -38,6 +38,11 @@ pub record Fault (words rest : List Word) : Type 0 where
   pub begun : Begun (tokens before)
   pub stuck : (w : Word) (after : List Word) → rest ≡ w ∷ after → Begun (tokens before ++ tokenOf (w .bytes) ∷ []) → ⊥
   pub unfinished : (r : Recipe) → tokens words ≡ recipeTokens r → ⊥
+
+-- the bytes of a part of a text
+-- 13.20: The faulty word is handed back as the part of the text where it stands, ..
+abbrev pub handed : List ℕ → Part → List ℕ
+handed text p = take (p .size) (drop (p .start) text)
 
 -- 13.20: .. in every other case the part is the empty one at the text's end.
 abbrev pub endOf : List ℕ → Part

@@ -7,14 +7,14 @@ use mathlib.Core.List.{List, [], _∷_}
 use mathlib.Core.Path.{_≡_, refl, sym, ap, ap₂, _∙_}
 use lib.Dec.{leb, ltb, eqb}
 use lib.ListN.{length, getD, take, drop, drop-of-length-le, length-take, length-drop}
-use lib.Seq.{take-all}
+use lib.Seq.{take-all, take-nil}
 use borrow.Author.Tests.{leb-true, leb-false, le-leb, lt-leb, ltb-true, ltb-false, eq-eqb, ne-eqb}
 use Rattle.lines.specs.Numbers.{isDigit}
 use Rattle.lines.proofs.NumberLaws.{drop-next}
 use Rattle.language.specs.Words.{isBlank, isLetter, isJoining, word, joins, grown, onByte, wordsFrom}
 use Rattle.language.specs.Tokens.{same}
 use Rattle.language.specs.declared.Part.{Part}
-use Rattle.language.specs.Readings.{partAt}
+use Rattle.language.specs.Readings.{partAt, handed}
 use Rattle.spans.specs.declared.Span.{Span}
 use Rattle.spans.specs.Cut.{from, part, Cut, JoinedTo}
 
@@ -98,6 +98,26 @@ pub part-none : (text : List ℕ) (start end stop : ℕ) → stop ≡ min end (l
 part-none text start end stop e h =
     let size : 0 ≡ stop - start = omega arith in
     ap (λ (n : ℕ). take n (drop start text)) size ∙ part-within text start end stop e
+
+-- a part that is handed back, with as much of it as stands in the text
+pub handed-within : (text : List ℕ) (p : Part) (start size : ℕ) → start ≡ min (p .start) (length text) → size ≡ min (p .size) (length text - start)
+    → part text start (start + size) ≡ handed text p
+handed-within text p start size e f = by (leb (p .start) (length text)) refl
+  where
+    by : (b : Bool) → leb (p .start) (length text) ≡ b → part text start (start + size) ≡ handed text p
+    by true g =
+        let h = leb-true (p .start) (length text) g in
+        let within : start + size ≡ min (p .start + p .size) (length text) = omega arith in
+        let first : start ≡ p .start = omega arith in
+        let all : (p .start + p .size) - start ≡ p .size = omega arith in
+        part-within text start (p .start + p .size) (start + size) within
+        ∙ ap₂ (λ (n k : ℕ). take n (drop k text)) all first
+    by false g =
+        let h = leb-false (p .start) (length text) g in
+        ap (λ (l : List ℕ). take ((start + size) - start) l) (drop-of-length-le text {i = start} (omega arith))
+        ∙ take-nil ((start + size) - start)
+        ∙ sym (take-nil (p .size))
+        ∙ sym (ap (λ (l : List ℕ). take (p .size) l) (drop-of-length-le text {i = p .start} (omega arith)))
 
 -- ---- the words from a place on, by the byte there
 

@@ -1,10 +1,12 @@
 // The words of a text. Every function takes the whole text and a place in it.
+use language::Part;
 ghost use mathlib.Core.Bool.{false};
 ghost use mathlib.Core.Path.{_≡_};
 ghost use Prim.Native.Nat.{_≤_, _<_, min};
 ghost use lib.ListN.{length, getD};
 ghost use Rattle.language.specs.Words.{isBlank, isJoining};
 ghost use Rattle.language.specs.Tokens.{same};
+ghost use Rattle.language.specs.Readings.{handed};
 ghost use Rattle.spans.specs.Cut.{part, Cut, JoinedTo};
 
 // Where a word starts and ends; where there is none, both are the text's end.
@@ -104,6 +106,15 @@ pub fn word_part<'a>(text: &'a [u8], start: usize, end: usize) -> &'a [u8]
         return &text[start..stop];
     }
     &text[..0]
+}
+
+// The part that a reading hands back, as a part of its text: the faulty word itself, or the empty part at the text's end.
+pub fn handed_back<'a>(text: &'a [u8], part: Part) -> &'a [u8]
+    ensures { λ r. ⌜ now r ≡ handed (now (text .entry)) part ⌝ }
+{
+    let start = least(part.start, text.len());
+    let size = least(part.size, text.len() - start);
+    &text[start..start + size]
 }
 
 // Whether a word is this key.
