@@ -3,8 +3,8 @@
  *
  *     cc program.c -Itarget/library -Ltarget/library -lbuzorinde
  *
- * A slice is a pointer to 32-bit words and how many there are. Every pointer is valid for its words, aligned and not null,
- * even where it has 0 words, and a slice that is written to overlaps no other one of the same call.
+ * A slice is a pointer to 32-bit words, or to bytes where it is a text, and how many there are. Every pointer is valid for these,
+ * aligned and not null, even where there are none, and a slice that is written to overlaps no other one of the same call.
  *
  * A call returns a status. Its answer is laid over the first words of the buffer `answer`; the words after it keep their
  * contents. A buffer that is too short is refused by a status, and then nothing at all has changed; where both buffers of a run
@@ -13,8 +13,8 @@
  * Of every function:
  * - It is reentrant and has no state: calls that lend different buffers may run at the same time, and a table may be lent to
  *   many calls at once.
- * - It reads and writes nothing but what it is lent and at most BUZORINDE_JUDGE_STACK, BUZORINDE_CHECK_STACK or BUZORINDE_RUN_STACK
- *   bytes of the caller's stack. It allocates nothing, has no globals, makes no system call, and calls nothing outside the library
+ * - It reads and writes nothing but what it is lent and at most BUZORINDE_JUDGE_STACK, BUZORINDE_CHECK_STACK, BUZORINDE_RUN_STACK or
+ *   BUZORINDE_READ_STACK bytes of the caller's stack. It allocates nothing, has no globals, makes no system call, and calls nothing outside the library
  *   but memcpy and memset.
  * - It is for x86-64 with the System V calling convention, and a word is an unsigned number in the machine's byte order.
  * - It always returns, and cannot be cancelled before it does. A run takes at most as many steps as its budget: on a small virtual
@@ -28,7 +28,7 @@
 
 /* The version of this header: a number changes whenever something here changes its meaning. */
 #define BUZORINDE_VERSION_MAJOR 0
-#define BUZORINDE_VERSION_MINOR 1
+#define BUZORINDE_VERSION_MINOR 2
 #define BUZORINDE_VERSION_PATCH 0
 
 /* The version as one number that grows, to be compared. */
@@ -50,15 +50,17 @@ enum {
     BUZORINDE_VARIABLES = 32,
     BUZORINDE_JUDGE_WORDS = 3,
     BUZORINDE_CHECK_WORDS = 4,
-    BUZORINDE_RUN_WORDS = 6
+    BUZORINDE_RUN_WORDS = 6,
+    BUZORINDE_READ_WORDS = 7
 };
 
-/* The most bytes of the caller's stack that each function takes, on any table: measured, not proved. Where memcpy and memset are
+/* The most bytes of the caller's stack that each function takes, on any table or text: measured, not proved. Where memcpy and memset are
  * bound by the call that needs them first (a dynamic program that is not linked with -z now), that call takes about 4 KiB more. */
 enum {
     BUZORINDE_JUDGE_STACK = 2048,
     BUZORINDE_CHECK_STACK = 4096,
-    BUZORINDE_RUN_STACK = 16384
+    BUZORINDE_RUN_STACK = 16384,
+    BUZORINDE_READ_STACK = 1048576
 };
 
 /* The limits. What is beyond them is refused; any memory, mark set and budget is allowed. */
@@ -69,7 +71,8 @@ enum {
     BUZORINDE_MOST_NESTING = 8,        /* of ifs and whiles */
     BUZORINDE_MOST_LOOP_NESTING = 3,   /* of whiles */
     BUZORINDE_RECORD_WORDS = 2,        /* a record of a trace: channel, value */
-    BUZORINDE_MOST_TRACE_WORDS = 16384 /* that may be lent; of an odd number of words, the last one is never written */
+    BUZORINDE_MOST_TRACE_WORDS = 16384, /* that may be lent; of an odd number of words, the last one is never written */
+    BUZORINDE_MOST_TEXT_BYTES = 16384  /* of a recipe's text */
 };
 
 /* The places of an answer's words. The first three are those of every answer. */
@@ -80,7 +83,11 @@ enum {
     BUZORINDE_CHECK_MARKS = 3, /* of a check: the final mark set */
     BUZORINDE_STEPS = 3,   /* of a run: the steps taken */
     BUZORINDE_RECORDS = 4, /* of a run: how many records the trace begins with, two words each: channel, value */
-    BUZORINDE_MARKS = 5    /* of a run: the mark set reached; bit i set means that variable i is provisional */
+    BUZORINDE_MARKS = 5,   /* of a run: the mark set reached; bit i set means that variable i is provisional */
+    BUZORINDE_READ_ROWS = 3,  /* of a reading: how many rows the table begins with, or 0 where it is refused */
+    BUZORINDE_READ_START = 4, /* of a reading: where the part that is handed back starts, and how many bytes it has; for */
+    BUZORINDE_READ_SIZE = 5,  /* refusals 10 and 11 the faulty word, and else, or at the end, the empty part at the text's end */
+    BUZORINDE_READ_MARKS = 6  /* of a reading: the start marks, or 0 where it is refused */
 };
 
 /* The verdicts of a run, and the place that BUZORINDE_ROW has with them. */
@@ -97,7 +104,8 @@ enum {
     BUZORINDE_FAIL = 1  /* some output on the settled channel may be provisional; BUZORINDE_ROW is the lowest such row */
 };
 
-/* The refusals. The lowest that applies anywhere is given, with its lowest row. */
+/* The refusals. Of 1 to 6 the lowest that applies anywhere is given, with its lowest row. A text is refused by the first of 9, 10, 11,
+ * 12, 5 and 13 that applies, each over the whole text. */
 enum {
     BUZORINDE_REFUSED_COUNT = 1, /* the table's words are not a multiple of 4, or it has 0 rows or over 512; row 0 */
     BUZORINDE_REFUSED_WORD = 2,  /* unknown kind; variable over 31, channel over 1, operator over 5; unnamed word not 0; the row */
@@ -105,7 +113,13 @@ enum {
     BUZORINDE_REFUSED_TREE = 4,  /* a row before the last is a child of no row or in more than one place, or the last row is an
                                     expression; the row */
     BUZORINDE_REFUSED_DEPTH = 5, /* expression height over 16, nesting over 8 or loop nesting over 3; the row */
-    BUZORINDE_REFUSED_TRACE = 6  /* of a run alone: the trace that is lent has over 16,384 words; row 0 */
+    BUZORINDE_REFUSED_TRACE = 6, /* of a run alone: the trace that is lent has over 16,384 words; row 0 */
+    BUZORINDE_REFUSED_TEXT = 9,  /* of a reading, as are those that follow: the text has over 16,384 bytes; row 0 for each of these */
+    BUZORINDE_REFUSED_FAULTY = 10, /* no recipe that begins with the words before it goes on with this word, or the text ends before
+                                      its recipe does */
+    BUZORINDE_REFUSED_AGAIN = 11,  /* this variable is declared a second time */
+    BUZORINDE_REFUSED_ROWS = 12,   /* the recipe has over 512 rows */
+    BUZORINDE_REFUSED_TABLE = 13   /* the table that is lent has fewer words than the rows take */
 };
 
 /* The channels of outputs and records. */
@@ -158,6 +172,15 @@ uint32_t buzorinde_check(const uint32_t *table, size_t table_words, uint32_t mar
 uint32_t buzorinde_run(const uint32_t *table, size_t table_words, uint32_t *memory, size_t memory_words, uint32_t marks,
                        uint32_t budget, uint32_t *trace, size_t trace_words, uint32_t *answer, size_t answer_words);
 
+/* Reads a recipe's text, in the language that docs/RECIPES.md explains, into a table and start marks. An accepted text's rows are the
+ * first words of `table`, BUZORINDE_ROW_WORDS for each, and the words after them keep their contents; a table of BUZORINDE_MOST_ROWS
+ * rows has room for every recipe. What the table then holds is accepted by the judge. A refused reading has not changed the table.
+ *
+ * The part that is handed back is bytes START to START + SIZE of the text, for an editor to underline. A text of 2^32 bytes or more,
+ * which is refused as too long, has START modulo 2^32. */
+uint32_t buzorinde_read(const uint8_t *text, size_t text_bytes, uint32_t *table, size_t table_words, uint32_t *answer,
+                        size_t answer_words);
+
 /* What a status means. */
 static inline const char *buzorinde_status_text(uint32_t status) {
     switch (status) {
@@ -197,6 +220,11 @@ static inline const char *buzorinde_refusal_text(uint32_t refusal) {
     case BUZORINDE_REFUSED_TREE: return "the row is a child of no row or in more than one place, or it is the last and an expression";
     case BUZORINDE_REFUSED_DEPTH: return "the expression is higher than 16, or statements nest deeper than 8 or loops than 3";
     case BUZORINDE_REFUSED_TRACE: return "the trace that is lent has more than 16,384 words";
+    case BUZORINDE_REFUSED_TEXT: return "the text has more than 16,384 bytes";
+    case BUZORINDE_REFUSED_FAULTY: return "no recipe goes on with this word, or the text ends before its recipe does";
+    case BUZORINDE_REFUSED_AGAIN: return "the variable is declared a second time";
+    case BUZORINDE_REFUSED_ROWS: return "the recipe has more than 512 rows";
+    case BUZORINDE_REFUSED_TABLE: return "the table that is lent has fewer words than the recipe's rows take";
     default: return "no refusal has this number";
     }
 }

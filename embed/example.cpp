@@ -4,7 +4,7 @@
 #include <iostream>
 #include <vector>
 
-static_assert(BUZORINDE_VERSION == 100, "this program is for version 0.1.0");
+static_assert(BUZORINDE_VERSION == 200, "this program is for version 0.2.0");
 
 using Answer = std::array<uint32_t, BUZORINDE_RUN_WORDS>;
 

@@ -39,6 +39,15 @@ pub mod library {
             answer: *mut u32,
             answer_words: usize,
         ) -> u32;
+
+        pub fn buzorinde_read(
+            text: *const u8,
+            text_bytes: usize,
+            table: *mut u32,
+            table_words: usize,
+            answer: *mut u32,
+            answer_words: usize,
+        ) -> u32;
     }
 }
 
@@ -49,6 +58,7 @@ pub const VARIABLES: usize = 32;
 pub const JUDGE_WORDS: usize = 3;
 pub const CHECK_WORDS: usize = 4;
 pub const RUN_WORDS: usize = 6;
+pub const READ_WORDS: usize = 7;
 
 /// How many words a row of a table and a record of a trace take.
 pub const ROW_WORDS: usize = 4;
@@ -57,6 +67,10 @@ pub const RECORD_WORDS: usize = 2;
 /// The most rows of a table, and the most words of a trace that may be lent. Of an odd number of words the last is never written.
 pub const MOST_ROWS: usize = 512;
 pub const MOST_TRACE_WORDS: usize = 16384;
+
+/// The most bytes of a text, and the words of a table that has room for every recipe.
+pub const MOST_TEXT_BYTES: usize = 16384;
+pub const MOST_TABLE_WORDS: usize = ROW_WORDS * MOST_ROWS;
 
 /// The channels of outputs and records.
 pub const SETTLED: u32 = 0;
@@ -102,6 +116,24 @@ pub struct Answer {
     pub steps: u32,
     pub records: u32,
     pub marks: u32,
+}
+
+/// What a text is: a recipe, with how many rows it has and its start marks; or refused, and then the table is as it was lent. The
+/// row is that of refusal 5, and 0 for the others.
+#[derive(Clone, Copy, Debug, PartialEq, Eq)]
+pub enum Read {
+    Recipe { rows: u32, marks: u32 },
+    Refused { number: u32, row: u32 },
+}
+
+/// What a reading answers beside the table that it was lent: what the text is, and the part of the text that is handed back. That is
+/// the faulty word for refusals 10 and 11, and in every other case, and for a fault at the end, the empty part at the text's end.
+#[derive(Clone, Copy, Debug, PartialEq, Eq)]
+pub struct Reading<'a> {
+    pub read: Read,
+    /// Where the part starts in the text.
+    pub start: usize,
+    pub part: &'a [u8],
 }
 
 /// A record of a trace.
@@ -174,6 +206,16 @@ impl Ended {
     }
 }
 
+impl Read {
+    /// Why the text was refused, if it was.
+    pub fn refusal(self) -> Option<Refusal> {
+        match self {
+            Read::Refused { number, .. } => Refusal::from_number(number),
+            Read::Recipe { .. } => None,
+        }
+    }
+}
+
 /// Writes a refusal: its number, its row and its sentence.
 fn write_refused(f: &mut fmt::Formatter<'_>, number: u32, row: u32) -> fmt::Result {
     write!(f, "refused {number} at row {row}")?;
@@ -210,6 +252,15 @@ impl fmt::Display for Ended {
             Ended::Spent => write!(f, "spent: {}", Verdict::Spent),
             Ended::NoRoom(row) => write!(f, "no room at row {row}: {}", Verdict::NoRoom),
             Ended::Refused { number, row } => write_refused(f, number, row),
+        }
+    }
+}
+
+impl fmt::Display for Read {
+    fn fmt(&self, f: &mut fmt::Formatter<'_>) -> fmt::Result {
+        match *self {
+            Read::Recipe { rows, marks } => write!(f, "a recipe of {rows} rows with marks {marks}"),
+            Read::Refused { number, row } => write_refused(f, number, row),
         }
     }
 }
@@ -296,4 +347,34 @@ pub fn run(
         records,
         marks,
     }
+}
+
+/// Reads a recipe's text into a table. The rows are the table's first words, and the words after them keep what they held; a table
+/// of `MOST_TABLE_WORDS` has room for every recipe.
+pub fn read<'a>(text: &'a [u8], table: &mut [u32]) -> Reading<'a> {
+    let mut answer = [0; READ_WORDS];
+    // SAFETY: each pointer comes from a slice with its length, and the two that are written are not the same.
+    let status = unsafe {
+        library::buzorinde_read(
+            text.as_ptr(),
+            text.len(),
+            table.as_mut_ptr(),
+            table.len(),
+            answer.as_mut_ptr(),
+            answer.len(),
+        )
+    };
+    debug_assert_eq!(status, 0);
+    let [refusal, _, row, rows, start, size, marks] = answer;
+    let read = match refusal {
+        0 => Read::Recipe { rows, marks },
+        number => Read::Refused { number, row },
+    };
+    // An empty part is at the end of the text, which for a text of 4 GiB or more no word can say.
+    let start = match size {
+        0 => text.len(),
+        _ => start as usize,
+    };
+    let part = &text[start..start + size as usize];
+    Reading { read, start, part }
 }

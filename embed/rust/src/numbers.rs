@@ -64,7 +64,7 @@ numbers! {
 }
 
 numbers! {
-    /// Why a table or a run was refused. A judge and a check can meet all but the last.
+    /// Why a table, a run or a text was refused. A judge and a check can meet 1 to 5, a run 6 too, and a reading 5 and 9 to 13.
     Refusal {
         Count = 1: "the table's words are not a multiple of 4, or it has 0 rows or more than 512",
         Word = 2: "the row's kind is unknown, a word is out of range, or a word that must be 0 is not",
@@ -72,5 +72,10 @@ numbers! {
         Tree = 4: "the row is a child of no row or in more than one place, or it is the last and an expression",
         Depth = 5: "the expression is higher than 16, or statements nest deeper than 8 or loops than 3",
         Trace = 6: "the trace that is lent has more than 16,384 words",
+        Text = 9: "the text has more than 16,384 bytes",
+        Faulty = 10: "no recipe goes on with this word, or the text ends before its recipe does",
+        Again = 11: "the variable is declared a second time",
+        Rows = 12: "the recipe has more than 512 rows",
+        Table = 13: "the table that is lent has fewer words than the recipe's rows take",
     }
 }
