@@ -2,6 +2,8 @@
 use Rattle.language.specs.Claims.{Claims}
 use Rattle.language.proofs.Unambiguous.{single-reading}
 use Rattle.language.proofs.OneAnswer.{one-answer}
+use Rattle.language.proofs.Faults.{fault-is-first, part-is-the-word}
+use Rattle.language.proofs.Answered.{exactly-recipes, refused-changes-nothing, accepted-stands}
 use Rattle.language.proofs.TableLaws.{table-is-judged, rows-are-the-tree}
 use Rattle.language.proofs.Evaluation.{texts-read}
 
@@ -9,6 +11,11 @@ pub claims : Claims
 claims = record {
   single-reading = single-reading;
   one-answer = one-answer;
+  exactly-recipes = exactly-recipes;
+  fault-is-first = fault-is-first;
+  part-is-the-word = part-is-the-word;
+  refused-changes-nothing = refused-changes-nothing;
+  accepted-stands = accepted-stands;
   table-is-judged = table-is-judged;
   rows-are-the-tree = rows-are-the-tree;
   texts-read = texts-read;

@@ -4,5 +4,7 @@ pub mod OneAnswer
 pub mod KnownWords
 pub mod RecipeRows
 pub mod TableLaws
+pub mod Faults
+pub mod Answered
 pub mod Evaluation
 pub mod Claims

@@ -1,17 +1,22 @@
 -- What is claimed of texts and recipes, and every claim of this crate. Its one proof cites theirs, so that none of them can go missing.
-use Prim.Native.Nat.{ℕ, _≤_}
+use Prim.Native.Nat.{ℕ, _*_, _≤_, _<_}
 use mathlib.Core.Bool.{Bool}
-use mathlib.Core.List.{List}
+use mathlib.Core.List.{List, _∷_, _++_}
 use mathlib.Core.Logic.{_⊎_}
 use mathlib.Core.Path.{_≡_}
+use lib.ListN.{length, take, drop}
 use Rattle.rules.specs.declared.Judged.{Judged}
-use Rattle.rules.specs.Limits.{mostRows}
+use Rattle.rules.specs.Limits.{rowWords, mostRows}
+use Rattle.rules.specs.Marks.{none}
 use Rattle.rules.specs.Rows.{rowsOf}
 use Rattle.rules.specs.Trees as tree
 use Rattle.rules.specs.Judging.{judge}
+use Rattle.language.specs.Limits.{mostTextBytes, faultyWord}
+use Rattle.language.specs.Words.{Word}
+use Rattle.language.specs.Tokens.{tokens}
 use Rattle.language.specs.Recipes.{Recipe}
-use Rattle.language.specs.Tables.{blockSize, tableOf, blockTree}
-use Rattle.language.specs.Readings.{Is, Reading, Reads}
+use Rattle.language.specs.Tables.{blockSize, tableOf, blockTree, marksOf}
+use Rattle.language.specs.Readings.{wordsOf, Is, Begun, Fault, handed, partAt, Reading, Reads}
 use Rattle.language.specs.Cases.{TextsRead}
 
 -- 13.21: No two recipes are the same words, ..
@@ -22,6 +27,49 @@ SingleReading = (text : List ℕ) (r other : Recipe) → Is text r → Is text o
 -- 13.21: .. a text has one answer.
 abbrev pub OneAnswer : Type 0
 OneAnswer = (meant : Bool) (text table : List ℕ) (a b : Reading) → Reads meant text table a → Reads meant text table b → a ≡ b
+
+-- A text that is not too long is refused by 10 exactly where it is no recipe.
+-- 13.13: Refusal 10, at 0: the text's words are no recipe; ..
+abbrev pub ExactlyRecipes : Type 0
+ExactlyRecipes =
+    (meant : Bool) (text table : List ℕ) (a : Reading) → Reads meant text table a → length text ≤ mostTextBytes
+    → ((r : Recipe) → Is text r → a .said .refusal ≡ faultyWord → ⊥) × ((a .said .refusal ≡ faultyWord → ⊥) → (r : Recipe) × Is text r)
+
+-- As many words as stand before the fault, or fewer, can be gone on with to a recipe; with the faulty word, or more, they cannot.
+-- 13.13: .. the faulty word is the first with which no recipe begins that begins with the words before it, ..
+abbrev pub FaultIsFirst : Type 0
+FaultIsFirst =
+    (words rest : List Word) (f : Fault words rest) (k : ℕ) → k ≤ length words
+    → (k ≤ length (f .before) → Begun (tokens (take k words))) × (length (f .before) < k → Begun (tokens (take k words)) → ⊥)
+
+-- 13.20: The faulty word is handed back as the part of the text where it stands, ..
+abbrev pub PartIsTheWord : Type 0
+PartIsTheWord =
+    (text : List ℕ) (before rest : List Word) (w : Word) → wordsOf text ≡ before ++ w ∷ rest
+    → handed text (partAt text (w ∷ rest)) ≡ w .bytes
+
+-- 13.18: .. with 0 rows and no marks, and the table is as it was lent.
+abbrev pub RefusedChangesNothing : Type 0
+RefusedChangesNothing =
+    (meant : Bool) (text table : List ℕ) (a : Reading) → Reads meant text table a → (a .said .refusal ≡ 0 → ⊥)
+    → (a .said .rows ≡ 0) × (a .said .marks ≡ none) × (a .table ≡ table)
+
+-- What is known of a text that is not refused: which recipe it is, and that the rows at the front of the table are accepted and
+-- stand for it.
+pub record Stands (meant : Bool) (text table : List ℕ) (a : Reading) : Type 0 where
+  pub recipe : Recipe
+  pub is : Is text recipe
+  pub marks : a .said .marks ≡ marksOf meant (recipe .declarations)
+  pub accepted : judge (take (a .said .rows * rowWords) (a .table)) ≡ Judged.Accepted
+  pub tree : tree.recipe (rowsOf (take (a .said .rows * rowWords) (a .table))) ≡ blockTree 0 (recipe .block)
+  pub kept : drop (a .said .rows * rowWords) (a .table) ≡ drop (a .said .rows * rowWords) table
+
+-- 13.19: A text that is not refused is answered with the number of its rows and its start marks, and the rows stand at the
+-- front of the table; the words after them keep what they held.
+-- 13.22: .. it stands for the recipe that was written.
+abbrev pub AcceptedStands : Type 0
+AcceptedStands =
+    (meant : Bool) (text table : List ℕ) (a : Reading) → Reads meant text table a → a .said .refusal ≡ 0 → Stands meant text table a
 
 -- 13.22: The table of a recipe of at most 512 rows is accepted by the judge or refused by 5, ..
 abbrev pub TableIsJudged : Type 0
@@ -36,6 +84,11 @@ RowsAreTheTree = (text : List ℕ) (r : Recipe) → Is text r → tree.recipe (r
 pub record Claims : Type 0 where
   pub single-reading : SingleReading
   pub one-answer : OneAnswer
+  pub exactly-recipes : ExactlyRecipes
+  pub fault-is-first : FaultIsFirst
+  pub part-is-the-word : PartIsTheWord
+  pub refused-changes-nothing : RefusedChangesNothing
+  pub accepted-stands : AcceptedStands
   pub table-is-judged : TableIsJudged
   pub rows-are-the-tree : RowsAreTheTree
   pub texts-read : TextsRead

@@ -15,6 +15,7 @@ use Rattle.language.specs.Words.{isBlank, isLetter, isJoining, word, joins, gro
 use Rattle.language.specs.Tokens.{same}
 use Rattle.language.specs.declared.Part.{Part}
 use Rattle.language.specs.Readings.{partAt, handed}
+use Rattle.language.proofs.Faults.{joining-blank}
 use Rattle.spans.specs.declared.Span.{Span}
 use Rattle.spans.specs.Cut.{from, part, Cut, JoinedTo}
 
@@ -56,13 +57,6 @@ joining-digit byte h k = simp (lt-leb 65 byte k, lt-leb 97 byte (omega arith), l
 pub joining-under : (byte : ℕ) → byte < 48 → false ≡ isJoining byte
 unfolding isJoining isLetter isDigit
 joining-under byte h = simp (lt-leb 65 byte (omega arith), lt-leb 97 byte (omega arith), lt-leb 48 byte h)
-
-joining-not : (byte k : ℕ) → isJoining byte ≡ true → isJoining k ≡ false → eqb byte k ≡ false
-joining-not byte k e f = ne-eqb byte k (λ q. let z : _≡_ {A = ℕ} 0 1 = cc in omega arith)
-
-joining-blank : (byte : ℕ) → isJoining byte ≡ true → isBlank byte ≡ false
-unfolding isBlank isJoining isLetter isDigit
-joining-blank byte e = ap₂ (λ (a b : Bool). a || b) (joining-not byte 32 e refl) (joining-not byte 10 e refl)
 
 -- ---- a part of a text
 
