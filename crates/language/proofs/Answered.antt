@@ -22,13 +22,14 @@ use Rattle.language.specs.Recipes.{Recipe}
 use Rattle.language.specs.Tables.{blockSize, tableOf, marksOf}
 use Rattle.language.specs.Readings.{wordsOf, Is, endOf, partAt, repeated, refused, Reading, untouched, laid, judged, sized, declared, readingOf, Reads, long, faulty, read}
 use Rattle.language.specs.Claims.{ExactlyRecipes, RefusedChangesNothing, Stands, AcceptedStands}
+use Rattle.language.proofs.Declared.{marks-declared}
 use Rattle.language.proofs.TableLaws.{table-is-judged, rows-are-the-tree, table-words}
 
 -- The answer to a recipe: refused by 11, 12, 5 or 13, or accepted.
 data Answered (meant : Bool) (text : List ℕ) (r : Recipe) (table : List ℕ) : Reading → Type 0 where
   turned : (number at : ℕ) (part : Part) → (number ≡ 0 → ⊥) → (number ≡ faultyWord → ⊥) → Answered meant text r table (untouched (refused number at part) table)
   accepted :
-      judge (tableOf r) ≡ Judged.Accepted
+      repeated none (r .declarations) (wordsOf text) ≡ [] → judge (tableOf r) ≡ Judged.Accepted
       → Answered meant text r table (record {
         said = record { refusal = 0; at = 0; rows = blockSize (r .block); marks = marksOf meant (r .declarations); part = endOf text };
         table = tableOf r ++ drop (length (tableOf r)) table;
@@ -36,31 +37,34 @@ data Answered (meant : Bool) (text : List ℕ) (r : Recipe) (table : List ℕ) :
 
 answered : (meant : Bool) (text : List ℕ) (r : Recipe) (table : List ℕ) → Is text r → Answered meant text r table (readingOf meant text r table)
 unfolding readingOf declared sized judged laid
-answered meant text r table is = on-words (repeated none (r .declarations) (wordsOf text))
+answered meant text r table is = on-words (repeated none (r .declarations) (wordsOf text)) refl
   where
     marks : ℕ
     marks = marksOf meant (r .declarations)
 
-    on-room : (fits : Bool) → judge (tableOf r) ≡ Judged.Accepted → Answered meant text r table (laid fits text r marks table)
-    on-room true e = accepted e
-    on-room false e = turned tableTooShort 0 (endOf text) (λ h. omega arith) (λ h. omega arith)
+    Once : Type 0
+    Once = repeated none (r .declarations) (wordsOf text) ≡ []
 
-    on-size : (few : Bool) → leb (blockSize (r .block)) mostRows ≡ few → Answered meant text r table (sized few text r marks table)
-    on-size false e = turned tooManyRows 0 (endOf text) (λ h. omega arith) (λ h. omega arith)
-    on-size true e = on (table-is-judged text r is (leb-true (blockSize (r .block)) mostRows e))
+    on-room : (fits : Bool) → Once → judge (tableOf r) ≡ Judged.Accepted → Answered meant text r table (laid fits text r marks table)
+    on-room true once e = accepted once e
+    on-room false once e = turned tableTooShort 0 (endOf text) (λ h. omega arith) (λ h. omega arith)
+
+    on-size : (few : Bool) → Once → leb (blockSize (r .block)) mostRows ≡ few → Answered meant text r table (sized few text r marks table)
+    on-size false once e = turned tooManyRows 0 (endOf text) (λ h. omega arith) (λ h. omega arith)
+    on-size true once e = on (table-is-judged text r is (leb-true (blockSize (r .block)) mostRows e))
       where
         on : (judge (tableOf r) ≡ Judged.Accepted) ⊎ ((row : ℕ) × (judge (tableOf r) ≡ Judged.Refused 5 row))
             → Answered meant text r table (judged (judge (tableOf r)) text r marks table)
         on (inl q) =
             subst (λ (j : Judged). Answered meant text r table (judged j text r marks table)) (sym q)
-            (on-room (leb (length (tableOf r)) (length table)) q)
+            (on-room (leb (length (tableOf r)) (length table)) once q)
         on (inr (row, q)) =
             subst (λ (j : Judged). Answered meant text r table (judged j text r marks table)) (sym q)
             (turned 5 row (endOf text) (λ h. omega arith) (λ h. omega arith))
 
-    on-words : (words : List Word) → Answered meant text r table (declared words text r marks table)
-    on-words (w ∷ rest) = turned declaredAgain 0 (partAt text (w ∷ rest)) (λ h. omega arith) (λ h. omega arith)
-    on-words [] = on-size (leb (blockSize (r .block)) mostRows) refl
+    on-words : (words : List Word) → repeated none (r .declarations) (wordsOf text) ≡ words → Answered meant text r table (declared words text r marks table)
+    on-words (w ∷ rest) e = turned declaredAgain 0 (partAt text (w ∷ rest)) (λ h. omega arith) (λ h. omega arith)
+    on-words [] e = on-size (leb (blockSize (r .block)) mostRows) e refl
 
 -- ---- every text
 
@@ -71,7 +75,7 @@ exactly-recipes meant text table a (read h r is) k = (λ other q. none (answered
   where
     none : {b : Reading} → Answered meant text r table b → b .said .refusal ≡ faultyWord → ⊥
     none (turned number at part some other) e = other e
-    none (accepted e) q = omega arith
+    none (accepted once e) q = omega arith
 
 pub refused-changes-nothing : RefusedChangesNothing
 refused-changes-nothing meant text table a (long h) other = (refl, refl, refl)
@@ -81,7 +85,7 @@ refused-changes-nothing meant text table a (read h r is) other = nothing (answer
     nothing : {b : Reading} → Answered meant text r table b → (b .said .refusal ≡ 0 → ⊥)
         → (b .said .rows ≡ 0) × (b .said .marks ≡ none) × (b .table ≡ table)
     nothing (turned number at part some other) q = (refl, refl, refl)
-    nothing (accepted e) q = absurd (q refl)
+    nothing (accepted once e) q = absurd (q refl)
 
 pub accepted-stands : AcceptedStands
 accepted-stands meant text table a (long h) e = absurd (omega arith)
@@ -98,10 +102,10 @@ accepted-stands meant text table a (read h r is) e = stands (answered meant text
 
     stands : {b : Reading} → Answered meant text r table b → b .said .refusal ≡ 0 → Stands meant text table b
     stands (turned number at part some other) q = absurd (some q)
-    stands (accepted e) q = record {
+    stands (accepted once e) q = record {
       recipe = r;
       is = is;
-      marks = refl;
+      marks = marks-declared meant text r is once;
       accepted = ap judge front ∙ e;
       tree = ap (λ (l : List ℕ). tree.recipe (rowsOf l)) front ∙ rows-are-the-tree text r is;
       kept =

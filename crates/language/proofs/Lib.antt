@@ -5,6 +5,7 @@ pub mod KnownWords
 pub mod RecipeRows
 pub mod TableLaws
 pub mod Faults
+mod Declared
 pub mod Answered
 pub mod Evaluation
 pub mod Claims

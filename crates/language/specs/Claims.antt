@@ -7,7 +7,7 @@ use mathlib.Core.Path.{_≡_}
 use lib.ListN.{length, take, drop}
 use Rattle.rules.specs.declared.Judged.{Judged}
 use Rattle.rules.specs.Limits.{rowWords, mostRows}
-use Rattle.rules.specs.Marks.{none}
+use Rattle.rules.specs.Marks.{none, has}
 use Rattle.rules.specs.Rows.{rowsOf}
 use Rattle.rules.specs.Trees as tree
 use Rattle.rules.specs.Judging.{judge}
@@ -15,7 +15,7 @@ use Rattle.language.specs.Limits.{mostTextBytes, faultyWord}
 use Rattle.language.specs.Words.{Word}
 use Rattle.language.specs.Tokens.{tokens}
 use Rattle.language.specs.Recipes.{Recipe}
-use Rattle.language.specs.Tables.{blockSize, tableOf, blockTree, marksOf}
+use Rattle.language.specs.Tables.{blockSize, tableOf, blockTree, isDeclaredProvisional}
 use Rattle.language.specs.Readings.{wordsOf, Is, Begun, Fault, handed, partAt, Reading, Reads}
 use Rattle.language.specs.Cases.{TextsRead}
 
@@ -54,12 +54,13 @@ RefusedChangesNothing =
     (meant : Bool) (text table : List ℕ) (a : Reading) → Reads meant text table a → (a .said .refusal ≡ 0 → ⊥)
     → (a .said .rows ≡ 0) × (a .said .marks ≡ none) × (a .table ≡ table)
 
--- What is known of a text that is not refused: which recipe it is, and that the rows at the front of the table are accepted and
--- stand for it.
+-- What is known of a text that is not refused: which recipe it is, that the marked variables are those that it declares provisional,
+-- and that the rows at the front of the table are accepted and stand for it.
+-- 13.11: The start marks are the variables that are declared provisional; a variable that is not declared is settled.
 pub record Stands (meant : Bool) (text table : List ℕ) (a : Reading) : Type 0 where
   pub recipe : Recipe
   pub is : Is text recipe
-  pub marks : a .said .marks ≡ marksOf meant (recipe .declarations)
+  pub marks : (v : ℕ) → has (a .said .marks) v ≡ isDeclaredProvisional meant v (recipe .declarations)
   pub accepted : judge (take (a .said .rows * rowWords) (a .table)) ≡ Judged.Accepted
   pub tree : tree.recipe (rowsOf (take (a .said .rows * rowWords) (a .table))) ≡ blockTree 0 (recipe .block)
   pub kept : drop (a .said .rows * rowWords) (a .table) ≡ drop (a .said .rows * rowWords) table

@@ -1,7 +1,8 @@
 -- The table of a recipe, the tree that its rows stand for, and its start marks.
 use Prim.Native.Nat.{ℕ, _+_}
-use mathlib.Core.Bool.{Bool, true, false}
+use mathlib.Core.Bool.{Bool, true, false, _&&_, _||_}
 use mathlib.Core.List.{List, [], _∷_, _++_}
+use lib.Dec.{eqb}
 use Rattle.rules.specs.declared.Kind.{Kind}
 use Rattle.rules.specs.declared.Operator.{Operator}
 use Rattle.rules.specs.Marks.{none, put}
@@ -131,3 +132,9 @@ marksFrom meant marks (d ∷ ds) = marksFrom meant (put (d .variable) (makesProv
 
 unfoldable pub marksOf : Bool → List Declaration → ℕ
 marksOf meant ds = marksFrom meant none ds
+
+-- whether some declaration makes the variable provisional
+unfoldable pub isDeclaredProvisional : Bool → ℕ → List Declaration → Bool
+isDeclaredProvisional meant v [] = false
+isDeclaredProvisional meant v (d ∷ ds) =
+    (eqb v (d .variable) && makesProvisional meant (d .level)) || isDeclaredProvisional meant v ds
