@@ -5,6 +5,7 @@ use std::path::Path;
 use std::process::ExitCode;
 
 use independent::job::{read, refusal_lines, report, MOST_JOB_BYTES};
+use independent::text::job_lines;
 use independent::{case, program, vectors};
 
 const HELP: &str = "\
@@ -12,6 +13,7 @@ usage: independent [OPTION]
 With no option: read a job on standard input and print its report.
   --judge        print the judge's answer for the job's table
   --levels       print the level check's answer for the job's table and levels
+  --text         read a recipe's text on standard input and print its lines of a job
   --case         read a case on standard input and print its answer
   --vectors DIR  write every vector, with its expected output, below DIR
   --program DIR  write what the program `cases` reads and must write, below DIR
@@ -65,6 +67,7 @@ fn answer(arguments: &[&str]) -> Result<String, Fault> {
             Ok(job) => case::levels_answer(&job.words, job.levels),
             Err(refusal) => refusal_lines(refusal),
         }),
+        ["--text"] => Ok(job_lines(&whole_input()?)),
         ["--case"] => case_answer(),
         ["--vectors", folder] => {
             vectors::write(Path::new(folder))?;
@@ -83,15 +86,19 @@ fn answer(arguments: &[&str]) -> Result<String, Fault> {
 }
 
 fn case_answer() -> Result<String, Fault> {
-    let mut input = Vec::new();
-    io::stdin().read_to_end(&mut input)?;
-    case::answer(&input).map_err(|fault| Fault {
+    case::answer(&whole_input()?).map_err(|fault| Fault {
         message: format!(
             "the case is refused by {} at line {}",
             fault.number, fault.at
         ),
         status: MISUSED,
     })
+}
+
+fn whole_input() -> io::Result<Vec<u8>> {
+    let mut input = Vec::new();
+    io::stdin().read_to_end(&mut input)?;
+    Ok(input)
 }
 
 /// Reads no more than is needed to know that a job is too long.

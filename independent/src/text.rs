@@ -6,6 +6,7 @@ mod grammar;
 mod machine;
 mod words;
 
+use crate::job::{list, refusal_lines};
 use crate::marks::{to_bits, EMPTY};
 use crate::table::{judge, Refusal, Row, MOST_ROWS, ROW_WORDS};
 use machine::rows;
@@ -115,4 +116,21 @@ fn declared(words: &[Word]) -> Result<u32, Refused> {
         marks[variable] = three[2].class == Class::Provisional;
     }
     Ok(to_bits(&marks))
+}
+
+/// A text's marks and rows, as a job has them; else the refusal, and the part handed back.
+pub fn job_lines(text: &[u8]) -> String {
+    let mut table = [0; MOST_ROWS * ROW_WORDS];
+    let reading = read(text, &mut table);
+    if reading.refused != 0 {
+        let refusal = Refusal {
+            number: reading.refused,
+            at: reading.at,
+        };
+        let part = format!("start={}\nlength={}\n", reading.start, reading.length);
+        return refusal_lines(refusal) + &part;
+    }
+    let rows = table.chunks(ROW_WORDS).take(reading.rows);
+    let rows: String = rows.map(|row| format!("row={}\n", list(row))).collect();
+    format!("levels={}\nrows={}\n{rows}", reading.marks, reading.rows)
 }

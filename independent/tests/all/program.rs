@@ -101,6 +101,16 @@ fn case_of_a_text() {
 }
 
 #[test]
+fn text() {
+    let rows = "levels=2\nrows=2\nrow=9,1,0,0\nrow=5,1,0,0\n";
+    answers(&["--text"], "in v1 provisional;\nprovisional v1\n", rows);
+    let again = "refused=11\nat=0\nstart=10\nlength=2\n";
+    answers(&["--text"], "in v1; in v1; skip", again);
+    let long = "refused=9\nat=0\nstart=40000\nlength=0\n";
+    answers(&["--text"], &" ".repeat(40_000), long);
+}
+
+#[test]
 fn misused() {
     for arguments in [
         &["--unknown"][..],
