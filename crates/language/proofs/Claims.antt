@@ -5,7 +5,7 @@ use Rattle.language.proofs.OneAnswer.{one-answer}
 use Rattle.language.proofs.Faults.{fault-is-first, part-is-the-word}
 use Rattle.language.proofs.Answered.{exactly-recipes, refused-changes-nothing, accepted-stands}
 use Rattle.language.proofs.TableLaws.{table-is-judged, rows-are-the-tree}
-use Rattle.language.proofs.Evaluation.{texts-read}
+use Rattle.language.proofs.Evaluation.{texts-read, texts-refused, words-told}
 
 pub claims : Claims
 claims = record {
@@ -19,4 +19,6 @@ claims = record {
   table-is-judged = table-is-judged;
   rows-are-the-tree = rows-are-the-tree;
   texts-read = texts-read;
+  texts-refused = texts-refused;
+  words-told = words-told;
 }

@@ -17,7 +17,7 @@ use Rattle.language.specs.Tokens.{tokens}
 use Rattle.language.specs.Recipes.{Recipe}
 use Rattle.language.specs.Tables.{blockSize, tableOf, blockTree, isDeclaredProvisional}
 use Rattle.language.specs.Readings.{wordsOf, Is, Begun, Fault, handed, partAt, Reading, Reads}
-use Rattle.language.specs.Cases.{TextsRead}
+use Rattle.language.specs.Cases.{TextsRead, TextsRefused, WordsTold}
 
 -- 13.21: No two recipes are the same words, ..
 abbrev pub SingleReading : Type 0
@@ -93,3 +93,5 @@ pub record Claims : Type 0 where
   pub table-is-judged : TableIsJudged
   pub rows-are-the-tree : RowsAreTheTree
   pub texts-read : TextsRead
+  pub texts-refused : TextsRefused
+  pub words-told : WordsTold
