@@ -11,7 +11,7 @@ use Rattle.language.specs.Readings.{handed, Reading, Reads}
 use Rattle.embed.specs.declared.Numbers.{Numbers}
 
 -- 11.2: An answer begins with the refusal's number or 0, the verdict, and the refusal's row or the run's place; a check
--- that fails has verdict 1 and its failing row.
+-- that fails has verdict 1 and its failing row; a judge and a reading have verdict 0.
 abbrev pub numbersOf : Said → Numbers
 numbersOf accepted = record { refusal = 0; verdict = 0; row = 0 }
 numbersOf (refused number row) = record { refusal = number; verdict = 0; row = row }
@@ -30,7 +30,9 @@ runWords w = saidWords (numbersOf (w .said)) ++ w .steps ∷ length (w .records)
 abbrev pub checkWords : Advised → List ℕ
 checkWords a = saidWords (numbersOf (a .said)) ++ a .marks ∷ []
 
--- 11.3: .. a reading's answer the number of rows, start and length of the part that is handed back, each modulo 2^32, and the marks.
+-- 11.2: .. a judge and a reading have verdict 0.
+-- 11.3: .. a reading's answer the number of rows, the start and the length of the part that is handed back, both modulo
+-- 2^32, and the marks.
 abbrev pub readWords : List ℕ → language.Said → List ℕ
 readWords text s =
     saidWords (record { refusal = s .refusal; verdict = 0; row = s .at })
