@@ -14,8 +14,8 @@
  * - It is reentrant and has no state: calls that lend different buffers may run at the same time, and a table may be lent to
  *   many calls at once.
  * - It reads and writes nothing but what it is lent and at most BUZORINDE_JUDGE_STACK, BUZORINDE_CHECK_STACK, BUZORINDE_RUN_STACK or
- *   BUZORINDE_READ_STACK bytes of the caller's stack. It allocates nothing, has no globals, makes no system call, and calls nothing outside the library
- *   but memcpy and memset.
+ *   BUZORINDE_READ_STACK bytes of the caller's stack. It allocates nothing, has no globals, makes no system call, and calls nothing
+ *   outside the library but memcpy and memset.
  * - It is for x86-64 with the System V calling convention, and a word is an unsigned number in the machine's byte order.
  * - It always returns, and cannot be cancelled before it does. A run takes at most as many steps as its budget: on a small virtual
  *   machine about 100,000,000 a second where expressions are small, and about 1,000,000 a second where expressions have hundreds of
@@ -54,13 +54,13 @@ enum {
     BUZORINDE_READ_WORDS = 7
 };
 
-/* The most bytes of the caller's stack that each function takes, on any table or text: measured, not proved. Where memcpy and memset are
- * bound by the call that needs them first (a dynamic program that is not linked with -z now), that call takes about 4 KiB more. */
+/* The most bytes of the caller's stack that each function takes, on any table or text: measured, not proved. Where memcpy and memset
+ * are bound by the call that needs them first (a dynamic program that is not linked with -z now), that call takes about 4 KiB more. */
 enum {
     BUZORINDE_JUDGE_STACK = 2048,
     BUZORINDE_CHECK_STACK = 4096,
     BUZORINDE_RUN_STACK = 16384,
-    BUZORINDE_READ_STACK = 1048576
+    BUZORINDE_READ_STACK = 720896
 };
 
 /* The limits. What is beyond them is refused; any memory, mark set and budget is allowed. */
