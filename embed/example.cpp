@@ -1,7 +1,8 @@
-// Runs B and I of docs/RULES.md, and the whole case with a trace of an odd number of words, from C++.
+// Runs B and I of docs/RULES.md, the whole case with a trace of an odd number of words, and B from its text, from C++.
 #include "buzorinde.h"
 #include <array>
 #include <iostream>
+#include <string>
 #include <vector>
 
 static_assert(BUZORINDE_VERSION == 200, "this program is for version 0.2.0");
@@ -26,6 +27,25 @@ static void run_and_print(const std::vector<uint32_t> &table, uint32_t marks, st
     std::cout << '\n';
 }
 
+// A table, and the marks to start with.
+struct Recipe {
+    std::vector<uint32_t> table;
+    uint32_t marks;
+};
+
+// Reads a recipe's text. Where it is refused, prints why and the faulty word; there are no rows then.
+static Recipe read_text(const std::string &text) {
+    std::vector<uint32_t> table(BUZORINDE_MOST_ROWS * BUZORINDE_ROW_WORDS);
+    std::array<uint32_t, BUZORINDE_READ_WORDS> answer = {{0}};
+    buzorinde_read(reinterpret_cast<const uint8_t *>(text.data()), text.size(), table.data(), table.size(), answer.data(),
+                   answer.size());
+    if (answer[BUZORINDE_REFUSAL] != 0)
+        std::cout << buzorinde_refusal_text(answer[BUZORINDE_REFUSAL]) << ": "
+                  << text.substr(answer[BUZORINDE_READ_START], answer[BUZORINDE_READ_SIZE]) << '\n';
+    table.resize(answer[BUZORINDE_READ_ROWS] * BUZORINDE_ROW_WORDS);
+    return {table, answer[BUZORINDE_READ_MARKS]};
+}
+
 int main() {
     const std::vector<uint32_t> b = {
         BUZORINDE_VARIABLE, 0, 0, 0,
@@ -45,4 +65,7 @@ int main() {
     run_and_print(i, 1, {3});
     run_and_print(whole, 2, {3, 3, 3, 3, 3});
     run_and_print(whole, 2, {3, 3, 3});
+    const Recipe typed = read_text("in v0 provisional; settled (v0 - v0)");
+    run_and_print(typed.table, typed.marks, {3, 3});
+    read_text("in v0 provisional; settled v0 - v0");
 }

@@ -12,5 +12,5 @@ int main(void) {
     print_all("status", buzorinde_status_text, BUZORINDE_MEMORY_TOO_SHORT + 1);
     print_all("verdict", buzorinde_verdict_text, BUZORINDE_NO_ROOM + 1);
     print_all("check", buzorinde_check_text, BUZORINDE_FAIL + 1);
-    print_all("refusal", buzorinde_refusal_text, BUZORINDE_REFUSED_TRACE + 1);
+    print_all("refusal", buzorinde_refusal_text, BUZORINDE_REFUSED_TABLE + 1);
 }

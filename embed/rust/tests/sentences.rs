@@ -1,6 +1,6 @@
 //! The sentences and the version are those of the list that the header for C is tried with.
 
-use buzorinde::{check, judge, run, CheckVerdict, Refusal, Status, Verdict, VARIABLES};
+use buzorinde::{check, judge, read, run, CheckVerdict, Refusal, Status, Verdict, VARIABLES};
 
 /// A line of the list for each number up to the first beyond the last case.
 fn lines<T: ToString>(
@@ -40,7 +40,7 @@ fn c_and_rust_say_the_same() {
         ),
         lines(
             "refusal",
-            6,
+            13,
             Refusal::from_number,
             "no refusal has this number",
         ),
@@ -92,6 +92,30 @@ fn an_answer_says_its_row() {
     );
 }
 
+/// Four loops, one within the other; the outermost is row 8.
+const DEEP: &str = "while 0 do while 0 do while 0 do while 0 do skip end end end end";
+
+#[test]
+fn a_reading_says_what_the_text_is() {
+    let said = |text: &str| read(text.as_bytes(), &mut [0; 20]).read.to_string();
+    assert_eq!(
+        said("in v1 provisional; settled v0; provisional v1"),
+        "a recipe of 5 rows with marks 2"
+    );
+    assert_eq!(
+        said("skip end"),
+        "refused 10 at row 0: no recipe goes on with this word, or the text ends before its recipe does"
+    );
+    assert_eq!(
+        said(DEEP),
+        "refused 5 at row 8: the expression is higher than 16, or statements nest deeper than 8 or loops than 3"
+    );
+    assert_eq!(
+        said("skip; skip; skip; skip"),
+        "refused 13 at row 0: the table that is lent has fewer words than the recipe's rows take"
+    );
+}
+
 #[test]
 fn an_answer_has_its_number() {
     let ended = |table: &[u32], marks| run(table, &mut [0; VARIABLES], marks, 100, &mut []).ended;
@@ -106,4 +130,15 @@ fn an_answer_has_its_number() {
     assert_eq!(check(&EMPTY, 1).checked.refusal(), Some(Refusal::Count));
     assert_eq!(judge(&B).refusal(), None);
     assert_eq!(judge(&B[..8]).refusal(), Some(Refusal::Tree));
+    let refusal = |text: &str| read(text.as_bytes(), &mut [0; 20]).read.refusal();
+    assert_eq!(refusal("skip"), None);
+    assert_eq!(refusal(&" ".repeat(16385)), Some(Refusal::Text));
+    assert_eq!(refusal("skip;"), Some(Refusal::Faulty));
+    assert_eq!(refusal("in v0; in v0; skip"), Some(Refusal::Again));
+    assert_eq!(
+        refusal(&("skip;".repeat(256) + "skip")),
+        Some(Refusal::Rows)
+    );
+    assert_eq!(refusal(DEEP), Some(Refusal::Depth));
+    assert_eq!(refusal("skip; skip; skip; skip"), Some(Refusal::Table));
 }
