@@ -1,11 +1,12 @@
 //! One call of a function for C: what the proved library leaves, and what the independent
 //! implementation and the header say that it leaves.
 
-use buzorinde::{library, CHECK_WORDS, JUDGE_WORDS, RUN_WORDS};
+use buzorinde::{library, CHECK_WORDS, JUDGE_WORDS, READ_WORDS, RUN_WORDS};
 use independent::levels::{levels_by, Method, Outcome};
 use independent::marks::VARIABLES;
 use independent::run::{self, RECORD_WORDS};
 use independent::table::{judge, MOST_ROWS, ROW_WORDS};
+use independent::text::read;
 use independent::tree::Memory;
 
 use crate::case::{Case, Given, Question};
@@ -19,6 +20,7 @@ pub const MEMORY_TOO_SHORT: u32 = 2;
 #[derive(Clone, PartialEq, Eq)]
 pub struct Left {
     pub status: u32,
+    pub table: Vec<u32>,
     pub answer: Vec<u32>,
     pub memory: Vec<u32>,
     pub trace: Vec<u32>,
@@ -31,6 +33,7 @@ impl Left {
         let given = case.givens().into_iter().next();
         Left {
             status: ANSWERED,
+            table: case.table.clone(),
             answer: pattern(0xA000_0000, case.answer_words),
             memory: given.map_or(vec![], |given| given.memory.clone()),
             trace: pattern(0x7000_0000, given.map_or(0, |given| given.trace_words)),
@@ -44,6 +47,21 @@ impl Left {
 
     pub fn verdict(&self) -> u32 {
         self.answer[1]
+    }
+
+    /// How many rows a text has.
+    pub fn rows(&self) -> usize {
+        self.answer[3] as usize
+    }
+
+    /// Whether a word of a text is handed back, and not the empty part at its end.
+    pub fn hands_back_a_word(&self) -> bool {
+        self.answer[5] > 0
+    }
+
+    /// The start marks of a text.
+    pub fn start_marks(&self) -> u32 {
+        self.answer[6]
     }
 
     /// Where a run ended that was not refused.
@@ -64,7 +82,7 @@ pub struct End {
     pub filled: usize,
 }
 
-fn pattern(first: u32, words: usize) -> Vec<u32> {
+pub fn pattern(first: u32, words: usize) -> Vec<u32> {
     (0..words as u32).map(|at| first + at).collect()
 }
 
@@ -72,9 +90,10 @@ fn pattern(first: u32, words: usize) -> Vec<u32> {
 pub fn by_library(case: &Case) -> Left {
     let mut left = Left::before(case);
     left.status = match &case.question {
-        Question::Judge => library_judge(&case.table, &mut left.answer),
-        Question::Check => library_check(&case.table, case.marks, &mut left.answer),
+        Question::Judge => library_judge(&left.table, &mut left.answer),
+        Question::Check => library_check(&left.table, case.marks, &mut left.answer),
         Question::Run(given) | Question::Pair(given, _) => library_run(case, given, &mut left),
+        Question::Read(text) => library_read(text, &mut left.table, &mut left.answer),
     };
     left
 }
@@ -108,8 +127,8 @@ fn library_run(case: &Case, given: &Given, left: &mut Left) -> u32 {
     // SAFETY: each pointer comes from a slice with its length, and no two slices overlap.
     unsafe {
         library::buzorinde_run(
-            case.table.as_ptr(),
-            case.table.len(),
+            left.table.as_ptr(),
+            left.table.len(),
             left.memory.as_mut_ptr(),
             left.memory.len(),
             case.marks,
@@ -118,6 +137,20 @@ fn library_run(case: &Case, given: &Given, left: &mut Left) -> u32 {
             left.trace.len(),
             left.answer.as_mut_ptr(),
             left.answer.len(),
+        )
+    }
+}
+
+fn library_read(text: &[u8], table: &mut [u32], answer: &mut [u32]) -> u32 {
+    // SAFETY: each pointer comes from a slice with its length, and no two slices overlap.
+    unsafe {
+        library::buzorinde_read(
+            text.as_ptr(),
+            text.len(),
+            table.as_mut_ptr(),
+            table.len(),
+            answer.as_mut_ptr(),
+            answer.len(),
         )
     }
 }
@@ -133,6 +166,10 @@ pub fn by_independent(case: &Case) -> Left {
         Question::Judge => lay(&mut left.answer, &judge_words(&case.table)),
         Question::Check => lay(&mut left.answer, &check_words(&case.table, case.marks)),
         Question::Run(given) | Question::Pair(given, _) => independent_run(case, given, &mut left),
+        Question::Read(text) => {
+            let words = read_words(text, &mut left.table);
+            lay(&mut left.answer, &words);
+        }
     }
     left
 }
@@ -173,6 +210,19 @@ fn check_words(table: &[u32], marks: u32) -> [u32; CHECK_WORDS] {
         (Outcome::Pass, marks) => [0, 0, 0, marks],
         (Outcome::Fail { row }, marks) => [0, 1, row, marks],
     }
+}
+
+fn read_words(text: &[u8], table: &mut [u32]) -> [u32; READ_WORDS] {
+    let reading = read(text, table);
+    [
+        reading.refused,
+        0,
+        reading.at,
+        reading.rows as u32,
+        reading.start as u32,
+        reading.length as u32,
+        reading.marks,
+    ]
 }
 
 fn independent_run(case: &Case, given: &Given, left: &mut Left) {

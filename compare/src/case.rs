@@ -1,4 +1,4 @@
-//! A case: what is asked about a table, and all that is given and lent for it.
+//! A case: what is asked about a table or a text, and all that is given and lent for it.
 
 use independent::marks::VARIABLES;
 use independent::table::ROW_WORDS;
@@ -20,6 +20,8 @@ pub enum Question {
     Run(Given),
     /// Two runs from memories that are equal in every variable that is not marked.
     Pair(Given, Given),
+    /// A text is read into the table.
+    Read(Vec<u8>),
 }
 
 impl Question {
@@ -29,6 +31,7 @@ impl Question {
             Question::Check => "level check",
             Question::Run(_) => "run",
             Question::Pair(..) => "pair of runs",
+            Question::Read(_) => "text",
         }
     }
 
@@ -40,12 +43,16 @@ impl Question {
             Question::Run(_) | Question::Pair(..) => {
                 &["refusal", "verdict", "row", "steps", "records", "marks"]
             }
+            Question::Read(_) => &[
+                "refusal", "verdict", "row", "rows", "start", "length", "marks",
+            ],
         }
     }
 }
 
 #[derive(Clone)]
 pub struct Case {
+    /// As it is before the call, which writes it where a text is read.
     pub table: Vec<u32>,
     pub marks: u32,
     pub question: Question,
@@ -56,7 +63,7 @@ pub struct Case {
 impl Case {
     pub fn givens(&self) -> Vec<&Given> {
         match &self.question {
-            Question::Judge | Question::Check => vec![],
+            Question::Judge | Question::Check | Question::Read(_) => vec![],
             Question::Run(given) => vec![given],
             Question::Pair(one, other) => vec![one, other],
         }
@@ -64,15 +71,32 @@ impl Case {
 
     pub fn givens_mut(&mut self) -> Vec<&mut Given> {
         match &mut self.question {
-            Question::Judge | Question::Check => vec![],
+            Question::Judge | Question::Check | Question::Read(_) => vec![],
             Question::Run(given) => vec![given],
             Question::Pair(one, other) => vec![one, other],
         }
     }
 
-    /// The case as jobs, one for each run, and what a job cannot say.
+    /// What is asked, and all that is given and lent for it.
     pub fn text(&self) -> String {
-        let mut text = format!("asked: {}\n\n", self.question.name());
+        let asked = format!("asked: {}\n\n", self.question.name());
+        let given = match &self.question {
+            Question::Read(text) => self.reading_text(text),
+            _ => self.jobs_text(),
+        };
+        let answer = format!("lent: {} words for the answer\n", self.answer_words);
+        asked + &given + &answer
+    }
+
+    fn reading_text(&self, text: &[u8]) -> String {
+        let (bytes, table) = (text.len(), self.table.len());
+        let text = escaped(text);
+        format!("{bytes} bytes: {text}\nlent: {table} words of table\n")
+    }
+
+    /// The case as jobs, one for each run, and what a job cannot say.
+    fn jobs_text(&self) -> String {
+        let mut text = String::new();
         let whole = self.table.len() - self.table.len() % ROW_WORDS;
         let setting = Setting::of_words(self.table[..whole].to_vec()).levels(self.marks);
         if self.givens().is_empty() {
@@ -88,8 +112,20 @@ impl Case {
         if whole < self.table.len() {
             text += &format!("words after the last row: {:?}\n", &self.table[whole..]);
         }
-        text + &format!("lent: {} words for the answer\n", self.answer_words)
+        text
     }
+}
+
+/// A text between quotes; a byte that stands many times in a row is written once.
+fn escaped(text: &[u8]) -> String {
+    const MOST: usize = 16;
+    let runs = text.chunk_by(|one, next| one == next).map(|run| {
+        if run.len() <= MOST {
+            return run.escape_ascii().to_string();
+        }
+        format!("\" \"{}\" {} times \"", run[..1].escape_ascii(), run.len())
+    });
+    format!("\"{}\"", runs.collect::<String>())
 }
 
 /// The variables that a job has to name: "others 0".

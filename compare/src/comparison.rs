@@ -49,23 +49,37 @@ fn left_text(case: &Case, left: &Left) -> String {
         }
     }
     text += &format!("\n  answer's words {:?}\n", left.answer);
-    if let Question::Run(_) = case.question {
-        let trace = trace_text(&left.trace);
-        text += &format!("  memory {:?}\n  trace {trace}\n", left.memory);
+    match case.question {
+        Question::Run(_) => {
+            let trace = words_text(&left.trace);
+            text += &format!("  memory {:?}\n  trace {trace}\n", left.memory);
+        }
+        Question::Read(_) => text += &format!("  table {}\n", words_text(&left.table)),
+        _ => {}
     }
     text
 }
 
-/// A long trace is cut, with a sum over all its words that tells two of them apart.
-fn trace_text(trace: &[u32]) -> String {
+/// Many words are cut, with a sum over all of them that tells two lists apart.
+fn words_text(words: &[u32]) -> String {
     const SHOWN: usize = 64;
-    if trace.len() <= SHOWN {
-        return format!("{trace:?}");
+    if words.len() <= SHOWN {
+        return format!("{words:?}");
     }
-    let sum = trace.iter().fold(0u64, |sum, word| {
+    let sum = words.iter().fold(0u64, |sum, word| {
         sum.wrapping_mul(31).wrapping_add(u64::from(*word))
     });
-    format!("{:?} and so on, sum {sum:x}", &trace[..SHOWN])
+    format!("{:?} and so on, sum {sum:x}", &words[..SHOWN])
+}
+
+/// Compares one call; answers what both leave.
+pub fn compared(case: Case, tally: &mut Tally) -> Result<Left, Box<Case>> {
+    let left = by_library(&case);
+    if left != by_independent(&case) {
+        return Err(Box::new(case));
+    }
+    tally.comparisons += 1;
+    Ok(left)
 }
 
 /// Compares on one random table; answers the first case with a difference.
@@ -98,7 +112,6 @@ struct OnTable<'a> {
 }
 
 impl OnTable<'_> {
-    /// Compares one call; answers what both leave.
     fn call(&mut self, question: Question, answer_words: usize) -> Result<Left, Box<Case>> {
         let case = Case {
             table: self.words.clone(),
@@ -106,12 +119,7 @@ impl OnTable<'_> {
             question,
             answer_words,
         };
-        let left = by_library(&case);
-        if left != by_independent(&case) {
-            return Err(Box::new(case));
-        }
-        self.tally.comparisons += 1;
-        Ok(left)
+        compared(case, self.tally)
     }
 
     /// Judge and level check; answers whether the table is accepted.

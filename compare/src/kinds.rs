@@ -1,15 +1,23 @@
 //! The kinds of cases that a comparison must have met, and how often each occurred.
 
-macro_rules! kinds {
-    ($($kind:ident $name:literal,)*) => {
-        #[derive(Clone, Copy, Debug, PartialEq, Eq)]
-        pub enum Kind { $($kind,)* }
+/// What a case is about.
+#[derive(Clone, Copy, PartialEq, Eq)]
+pub enum About {
+    Table,
+    Text,
+}
 
-        const NAMES: &[&str] = &[$($name,)*];
+macro_rules! kinds {
+    ($([$about:ident] $($kind:ident $name:literal,)*)*) => {
+        #[derive(Clone, Copy, Debug, PartialEq, Eq)]
+        pub enum Kind { $($($kind,)*)* }
+
+        const NAMES: &[(About, &str)] = &[$($((About::$about, $name),)*)*];
     };
 }
 
 kinds! {
+    [Table]
     // What the judge is given, and that it answers what the table was made for.
     Recipe "accepted: a random recipe",
     NestAtLimits "accepted: nesting 8 and loop nesting 3",
@@ -83,6 +91,48 @@ kinds! {
     PairDone "pair: both done",
     PairDiffers "pair: both done, and the memories differ at the end",
     PairPassed "pair: the check passes",
+    [Text]
+    // What a text is made for, and that it is answered so.
+    Written "text accepted: a recipe written out",
+    DeepText "text accepted: height and nesting at their limits",
+    LongestTable "text accepted: 512 rows",
+    LongestText "text accepted: 16,384 bytes",
+    RepeatedPiece "text accepted: one piece many times",
+    FewWords "text accepted: words one after the other",
+    TooDeepText "text refused by 5: height or nesting over its limit",
+    RepeatedTooDeep "text refused by 5: one piece many times",
+    TooLongText "text refused by 9: 16,385 bytes",
+    RepeatedNoRecipe "text refused by 10: one piece many times",
+    WordDropped "text refused by 10: a word dropped",
+    WordDoubled "text refused by 10: a word doubled",
+    WordsExchanged "text refused by 10: two words exchanged",
+    WordReplaced "text refused by 10: a word replaced",
+    WordCut "text refused by 10: a word cut",
+    TextCut "text refused by 10: the end cut off",
+    ByteChanged "text refused by 10: a byte changed",
+    FewWordsNoRecipe "text refused by 10: words one after the other",
+    DeclaredAgain "text refused by 11: a variable declared again",
+    ManyRows "text refused by 12: a few rows over 512",
+    RepeatedManyRows "text refused by 12: one piece many times",
+    // What is answered.
+    Read "text accepted",
+    ReadMarks "text accepted with marks",
+    Refused9 "text refused by 9",
+    Refused10Word "text refused by 10 at a word",
+    Refused10End "text refused by 10 at the end",
+    Refused11 "text refused by 11",
+    Refused12 "text refused by 12",
+    TextRefused5 "text refused by 5",
+    Refused13 "text refused by 13",
+    Order10Before11 "text refused by 10 that declares a variable twice before",
+    Order11Before5 "text refused by 11 that would be by 5",
+    Order11Before12 "text refused by 11 that would be by 12",
+    // What is lent.
+    TableFilled "text accepted, and its rows fill the table",
+    TableLonger "text accepted, with words of the table after its rows",
+    TableOneShort "text refused by 13 for want of one word",
+    ReadTooShort "text with an answer buffer too short",
+    ReadLonger "text with an answer buffer longer than needed",
 }
 
 /// The kind of a refusal by this number.
@@ -97,15 +147,17 @@ pub fn refused_by(number: u32) -> Kind {
     }
 }
 
-/// How often each kind has occurred.
+/// How often each kind has occurred, in cases that are all about tables or all about texts.
 pub struct Tally {
+    about: About,
     counts: Vec<u64>,
     pub comparisons: u64,
 }
 
 impl Tally {
-    pub fn new() -> Tally {
+    pub fn new(about: About) -> Tally {
         Tally {
+            about,
             counts: vec![0; NAMES.len()],
             comparisons: 0,
         }
@@ -125,16 +177,22 @@ impl Tally {
         self.counts[kind as usize]
     }
 
+    /// The name and the count of each kind that can occur.
+    fn counted(&self) -> impl Iterator<Item = (&'static str, u64)> + '_ {
+        let counted = NAMES.iter().zip(&self.counts);
+        let about = counted.filter(|((about, _), _)| *about == self.about);
+        about.map(|((_, name), count)| (*name, *count))
+    }
+
     /// Each kind with its count, a line each.
     pub fn lines(&self) -> String {
-        let line = |(name, count): (&&str, &u64)| format!("{count:>10}  {name}\n");
-        NAMES.iter().zip(&self.counts).map(line).collect()
+        let line = |(name, count)| format!("{count:>10}  {name}\n");
+        self.counted().map(line).collect()
     }
 
     /// The kinds that have not occurred.
     pub fn missing(&self) -> Vec<&'static str> {
-        let counted = NAMES.iter().zip(&self.counts);
-        let missing = counted.filter(|(_, count)| **count == 0);
-        missing.map(|(name, _)| *name).collect()
+        let missing = self.counted().filter(|(_, count)| *count == 0);
+        missing.map(|(name, _)| name).collect()
     }
 }

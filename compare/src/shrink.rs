@@ -1,11 +1,13 @@
 //! The smallest case that still has a difference, found by trying smaller ones.
 
+use buzorinde::READ_WORDS;
 use independent::marks::VARIABLES;
 use independent::run::RECORD_WORDS;
-use independent::table::{Word, CONSTANT, ROW_WORDS, SKIP};
+use independent::table::{Word, CONSTANT, MOST_ROWS, ROW_WORDS, SKIP};
 
 use crate::calls::{by_library, ANSWERED};
-use crate::case::{Case, Question};
+use crate::case::{Case, Given, Question};
+use crate::pieces::{narrowings, Narrowing};
 use crate::tables::Names;
 use crate::words::{children, is_child, is_expression, places, without};
 
@@ -49,6 +51,7 @@ enum Change {
         lower: usize,
         variable: usize,
     },
+    Text(Narrowing),
 }
 
 /// Changes the case while it still differs, until no change does that. After a change the next
@@ -71,7 +74,7 @@ pub fn smallest(mut case: Case, differs: impl Fn(&Case) -> bool) -> Case {
     }
 }
 
-/// What every change makes smaller: first the rows, then all numbers.
+/// What every change makes smaller: first the rows or the text, then all numbers.
 fn size(case: &Case) -> (usize, u64) {
     let sum = |words: &[u32]| words.iter().map(|word| u64::from(*word)).sum::<u64>();
     let given = case.givens().into_iter().map(|given| {
@@ -79,11 +82,18 @@ fn size(case: &Case) -> (usize, u64) {
         sum(&given.memory) + u64::from(given.budget) + lent as u64
     });
     let numbers = sum(&case.table) + u64::from(case.marks) + case.answer_words as u64;
-    (case.table.len(), numbers + given.sum::<u64>())
+    let first = match &case.question {
+        Question::Read(text) => text.len(),
+        _ => case.table.len(),
+    };
+    (first, numbers + given.sum::<u64>())
 }
 
 /// The changes to try, the boldest first.
 fn changes(case: &Case) -> Vec<Change> {
+    if let Question::Read(text) = &case.question {
+        return reading_changes(text, case);
+    }
     let mut changes = Vec::new();
     for (run, given) in case.givens().into_iter().enumerate() {
         let budgets = smaller_values(given.budget);
@@ -98,6 +108,14 @@ fn changes(case: &Case) -> Vec<Change> {
     changes
 }
 
+/// Shorter texts, and less that is lent.
+fn reading_changes(text: &[u8], case: &Case) -> Vec<Change> {
+    let mut changes: Vec<Change> = narrowings(text).into_iter().map(Change::Text).collect();
+    changes.extend(cuts(&case.table));
+    changes.extend(smaller_values(case.answer_words as u32).map(Change::Answer));
+    changes
+}
+
 /// Numbers to try in place of one.
 fn smaller_values(value: u32) -> impl Iterator<Item = u32> {
     let less = |by| value.saturating_sub(by);
@@ -105,10 +123,14 @@ fn smaller_values(value: u32) -> impl Iterator<Item = u32> {
     values.into_iter().filter(move |other| *other < value)
 }
 
-fn table_changes(table: &[u32]) -> Vec<Change> {
+fn cuts(table: &[u32]) -> impl Iterator<Item = Change> + '_ {
     let cuts = [table.len() / 2, ROW_WORDS, 1].into_iter();
     let cuts = cuts.filter(|words| *words <= table.len());
-    let mut changes: Vec<Change> = cuts.map(Change::Cut).collect();
+    cuts.map(Change::Cut)
+}
+
+fn table_changes(table: &[u32]) -> Vec<Change> {
+    let mut changes: Vec<Change> = cuts(table).collect();
     for row in (0..table.len() / ROW_WORDS).rev() {
         let raised = children(table, row).into_iter().filter(|child| {
             *child < row && is_expression(table, *child) == is_expression(table, row)
@@ -174,23 +196,35 @@ fn changed(case: &Case, change: Change) -> Case {
                 names.of_memory(&mut given.memory);
             }
         }
+        Change::Text(narrowing) => {
+            if let Question::Read(text) = &mut other.question {
+                *text = narrowing.of(text);
+            }
+        }
     }
     other
 }
 
-/// The case, and the same with the budget, or the words of the trace, that its run takes: a
-/// difference at a run's very end is lost where the run is shorter and these are not.
+/// The case, and the same with no more lent than it takes: a difference at a run's very end, or
+/// at that of a table, is lost where a run or a text is shorter and what is lent is not.
 fn fitted(case: Case) -> Vec<Case> {
-    let Question::Run(given) = &case.question else {
-        return vec![case];
+    let others = match &case.question {
+        Question::Run(given) => fitted_run(&case, given),
+        Question::Read(_) => fitted_reading(&case),
+        _ => vec![],
     };
+    [vec![case], others].concat()
+}
+
+/// With the budget, or the words of the trace, that the run takes.
+fn fitted_run(case: &Case, given: &Given) -> Vec<Case> {
     // A run that the highest budgets allow may be endless once it is changed.
     if given.budget > MOST_BUDGET {
-        return vec![case];
+        return vec![];
     }
-    let left = by_library(&case);
+    let left = by_library(case);
     if left.status != ANSWERED || left.refusal() != 0 {
-        return vec![case];
+        return vec![];
     }
     let end = left.end();
     let odd = given.trace_words % RECORD_WORDS;
@@ -201,7 +235,22 @@ fn fitted(case: Case) -> Vec<Case> {
     for given in trace.givens_mut() {
         given.trace_words = given.trace_words.min(end.filled + odd);
     }
-    vec![case, budget, trace]
+    vec![budget, trace]
+}
+
+/// With a table of the words that the rows take, or of one less.
+fn fitted_reading(case: &Case) -> Vec<Case> {
+    let mut roomy = case.clone();
+    roomy.table.resize(MOST_ROWS * ROW_WORDS, 0);
+    roomy.answer_words = READ_WORDS;
+    let words = by_library(&roomy).rows() * ROW_WORDS;
+    let lengths = [words, words.saturating_sub(1)].into_iter();
+    let with_length = |length| {
+        let mut other = case.clone();
+        other.table.truncate(length);
+        other
+    };
+    lengths.map(with_length).collect()
 }
 
 /// Which rows stand below a row, itself among them.

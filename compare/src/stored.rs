@@ -1,21 +1,27 @@
-//! The stored table cases: the proved functions on each, against the answer that the independent
+//! The stored cases: the proved functions on each, against the answer that the independent
 //! implementation wrote beside it.
 
 use std::fs;
 use std::io;
 use std::path::{Path, PathBuf};
 
-use buzorinde::{Checked, Ended, Judged};
+use buzorinde::{Checked, Ended, Judged, Read};
 use independent::case::{answer_by, Functions};
 use independent::levels::Outcome;
 use independent::run::{Answer, End, Verdict};
 use independent::table::Refusal;
+use independent::text::Reading;
 use independent::tree::Memory;
 
-const PROVED: Functions = Functions { judge, levels, run };
+const PROVED: Functions = Functions {
+    judge,
+    levels,
+    run,
+    read,
+};
 
 /// What the functions for C and Rust can be asked; the program `cases` asks the rest.
-const ASKED: [&[u8]; 3] = [b"ask=judge\n", b"ask=run\n", b"ask=levels\n"];
+const ASKED: [&[u8]; 4] = [b"ask=judge\n", b"ask=run\n", b"ask=levels\n", b"ask=text\n"];
 
 /// Answers how many cases there were, or what is to be told of the first difference.
 pub fn compare_stored(folder: &Path) -> Result<usize, String> {
@@ -91,4 +97,20 @@ fn run(words: &[u32], memory: Memory, marks: u32, budget: u32, trace: &mut [u32]
         records: answer.records as usize,
     };
     (given, answer.marks)
+}
+
+fn read(text: &[u8], table: &mut [u32]) -> Reading {
+    let reading = buzorinde::read(text, table);
+    let (refused, at, rows, marks) = match reading.read {
+        Read::Recipe { rows, marks } => (0, 0, rows, marks),
+        Read::Refused { number, row } => (number, row, 0, 0),
+    };
+    Reading {
+        refused,
+        at,
+        rows: rows as usize,
+        marks,
+        start: reading.start,
+        length: reading.part.len(),
+    }
 }

@@ -6,7 +6,7 @@ use crate::marks::{from_bits, to_bits, united, Marks, EMPTY, VARIABLES};
 use crate::rows::{assigned_at, row_at, value_at};
 use crate::run::{run, Answer};
 use crate::table::{judge, words_of, Refusal};
-use crate::text::read;
+use crate::text::{read, Reading};
 use crate::tree::{Memory, Operator};
 
 /// The functions that cases ask. An answer's lines are the same, whoever gives it.
@@ -14,12 +14,14 @@ pub struct Functions {
     pub judge: fn(&[u32]) -> Result<(), Refusal>,
     pub levels: fn(&[u32], u32) -> (Outcome, u32),
     pub run: fn(&[u32], Memory, u32, u32, &mut [u32]) -> (Answer, u32),
+    pub read: fn(&[u8], &mut [u32]) -> Reading,
 }
 
 const OWN: Functions = Functions {
     judge: |words| judge(words).map(|_| ()),
     levels,
     run,
+    read,
 };
 
 /// Answers a case; a case that lacks its form is refused as a job line would be.
@@ -30,8 +32,7 @@ pub fn answer(input: &[u8]) -> Result<String, Refusal> {
 /// What an answer says for every unknown kind, and for the kind of a row that is not there.
 const UNKNOWN: u32 = 11;
 
-/// Answers a case by these functions; rows, mark sets, operators and texts are always answered
-/// here.
+/// Answers a case by these functions; rows, mark sets and operators are always answered here.
 pub fn answer_by(functions: &Functions, input: &[u8]) -> Result<String, Refusal> {
     let mut lines = Lines::of(input);
     let answer = match lines.word("ask")? {
@@ -48,7 +49,7 @@ pub fn answer_by(functions: &Functions, input: &[u8]) -> Result<String, Refusal>
         b"rows" => rows_answer(&mut lines)?,
         b"marks" => marks_answer(&mut lines)?,
         b"operator" => operator_answer(&mut lines)?,
-        b"text" => text_answer(&mut lines)?,
+        b"text" => text_answer(functions, &mut lines)?,
         _ => return Err(lacks_form(1)),
     };
     lines.end()?;
@@ -164,10 +165,10 @@ fn operator_answer(lines: &mut Lines) -> Result<String, Refusal> {
 }
 
 /// The text is not in a line: it may have any bytes.
-fn text_answer(lines: &mut Lines) -> Result<String, Refusal> {
+fn text_answer(functions: &Functions, lines: &mut Lines) -> Result<String, Refusal> {
     let mut table = counted(lines, "lent", "table")?;
     let length = lines.number("length", u32::MAX)?;
-    let reading = read(lines.bytes(length as usize)?, &mut table);
+    let reading = (functions.read)(lines.bytes(length as usize)?, &mut table);
     let mut text = format!("refused={}\nat={}\n", reading.refused, reading.at);
     text += &format!("rows={}\nlevels={}\n", reading.rows, reading.marks);
     text += &format!("start={}\nlength={}\n", reading.start, reading.length);
