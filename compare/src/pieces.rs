@@ -52,15 +52,21 @@ pub fn narrowings(text: &[u8]) -> Vec<Narrowing> {
     narrowings
 }
 
-/// All pieces, each half, each quarter, down to each piece.
+/// Each stretch of pieces, the longest first; of many pieces the halves, the quarters and so on.
 fn stretches(pieces: &[Piece], end: usize) -> Vec<Narrowing> {
+    const FEW: usize = 64;
     let begin = |piece: usize| pieces.get(piece).map_or(end, |(begin, _)| *begin);
     let mut stretches = Vec::new();
     let mut length = pieces.len();
     while length > 0 {
-        let firsts = (0..pieces.len()).step_by(length);
+        let (step, next) = if pieces.len() <= FEW {
+            (1, length - 1)
+        } else {
+            (length, length / 2)
+        };
+        let firsts = (0..pieces.len()).step_by(step);
         stretches.extend(firsts.map(|at| Narrowing::dropped(begin(at), begin(at + length))));
-        length /= 2;
+        length = next;
     }
     stretches
 }
