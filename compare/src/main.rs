@@ -36,7 +36,7 @@ tables, memories, mark sets, budgets, rooms and buffers, on random texts, and on
 few words. Holds the proved ones to demand 3 on pairs of memories. Prints a summary, or the
 smallest job or text that shows a difference.
   --count N   on how many tables (40000); each takes three to eleven calls
-  --texts N   on how many texts (40000); each takes one call
+  --texts N   on how many texts (40000); each takes one or two calls
   --words N   on every list of up to N words (9) of a small alphabet of which each but the last
               goes on, and on every list of up to 4; 0 is the empty text alone
   --seed S    which tables and texts (1): the same seed gives the same ones
@@ -244,10 +244,10 @@ impl Tallies {
         } = options;
         let (on_tables, on_texts) = (table_counts(&self.tables), text_counts(&self.texts));
         let (lists, on_lists) = (self.lists.comparisons, text_counts(&self.lists));
-        let comparisons = self.tables.comparisons;
+        let (of_tables, of_texts) = (self.tables.comparisons, self.texts.comparisons);
         format!(
-            "compare: seed {seed}, {tables} tables, {comparisons} comparisons, no difference; {on_tables}\n\
-             compare: seed {seed}, {texts} texts, no difference; {on_texts}\n\
+            "compare: seed {seed}, {tables} tables, {of_tables} comparisons, no difference; {on_tables}\n\
+             compare: seed {seed}, {texts} texts, {of_texts} comparisons, no difference; {on_texts}\n\
              compare: {lists} lists of up to {words} words, no difference; {on_lists}\n"
         )
     }
@@ -291,7 +291,6 @@ fn text_counts(tally: &Tally) -> String {
         ("by 12", Kind::Refused12),
         ("by 5", Kind::TextRefused5),
         ("by 13", Kind::Refused13),
-        ("answer too short", Kind::ReadTooShort),
     ];
     counts(tally, &answers)
 }

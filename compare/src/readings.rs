@@ -11,7 +11,7 @@ use independent::text::{
 };
 use independent::texts::{random_text, Kind as Made};
 
-use crate::calls::{pattern, Left, ANSWERED};
+use crate::calls::{pattern, Left, ANSWER_TOO_SHORT};
 use crate::case::{Case, Question};
 use crate::comparison::compared;
 use crate::kinds::{Kind, Tally};
@@ -19,16 +19,16 @@ use crate::kinds::{Kind, Tally};
 const TOO_DEEP: u32 = 5;
 
 /// A text that is read into a table of so many words.
-fn reading(text: Vec<u8>, table_words: usize, answer_words: usize) -> Case {
+fn reading(text: &[u8], table_words: usize, answer_words: usize) -> Case {
     Case {
         table: pattern(0x5000_0000, table_words),
         marks: 0,
-        question: Question::Read(text),
+        question: Question::Read(text.to_vec()),
         answer_words,
     }
 }
 
-/// Compares on one random text; answers the case where there is a difference.
+/// Compares on one random text; answers the first case with a difference.
 pub fn compare_on_a_text(random: &mut Random, tally: &mut Tally) -> Result<(), Box<Case>> {
     let asked = random_text(random);
     let twice = random.percent(10);
@@ -37,19 +37,30 @@ pub fn compare_on_a_text(random: &mut Random, tally: &mut Tally) -> Result<(), B
     } else {
         asked.text.clone()
     };
-    let answer_words = answer_words(random);
-    let left = compared(reading(text.clone(), asked.lent, answer_words), tally)?;
-    if left.status != ANSWERED {
-        tally.count(Kind::ReadTooShort);
-        return Ok(());
-    }
-    tally.count_if(answer_words > READ_WORDS, Kind::ReadLonger);
+    let left = compared(reading(&text, asked.lent, READ_WORDS), tally)?;
     count_made(asked.kind, &left, tally);
     count_answer(&left, tally);
     count_lengths(&text, &left, tally);
     if twice {
         count_order(&asked.text, &left, tally);
     }
+    if random.percent(20) {
+        return compare_other_buffer(random, &text, asked.lent, tally);
+    }
+    Ok(())
+}
+
+/// The same call with a buffer for the answer that is too short, or longer than needed.
+fn compare_other_buffer(
+    random: &mut Random,
+    text: &[u8],
+    lent: usize,
+    tally: &mut Tally,
+) -> Result<(), Box<Case>> {
+    let answer_words = random.below(READ_WORDS as u32 + 6) as usize;
+    let left = compared(reading(text, lent, answer_words), tally)?;
+    tally.count_if(left.status == ANSWER_TOO_SHORT, Kind::ReadTooShort);
+    tally.count_if(answer_words > READ_WORDS, Kind::ReadLonger);
     Ok(())
 }
 
@@ -58,14 +69,6 @@ fn declared_twice(random: &mut Random, text: &[u8]) -> Vec<u8> {
     let variable = random.below(VARIABLES as u32);
     let declared = format!("in v{variable};in v{variable} provisional;");
     [declared.as_bytes(), text].concat()
-}
-
-/// Mostly as many as an answer takes.
-fn answer_words(random: &mut Random) -> usize {
-    if random.percent(80) {
-        return READ_WORDS;
-    }
-    random.below(READ_WORDS as u32 + 6) as usize
 }
 
 /// Counts a text that is answered as it was made for.
@@ -180,9 +183,12 @@ pub fn compare_on_lists(most: usize, tally: &mut Tally) -> Result<(), Box<Case>>
 
 /// Compares on a list, and on those that begin with it.
 fn compare_from(list: &mut Vec<&str>, most: usize, tally: &mut Tally) -> Result<(), Box<Case>> {
-    let text = list.join(" ").into_bytes();
+    let text = list.join(" ");
     // No recipe has more rows than words.
-    let left = compared(reading(text, most * ROW_WORDS, READ_WORDS), tally)?;
+    let left = compared(
+        reading(text.as_bytes(), most * ROW_WORDS, READ_WORDS),
+        tally,
+    )?;
     count_answer(&left, tally);
     let faulty = left.refusal() == NO_RECIPE && left.hands_back_a_word();
     if list.len() == most || faulty && list.len() >= WHATEVER_COMES {
