@@ -1,4 +1,6 @@
-//! Texts as pieces, which are words and spaces, and the ways to leave out some of them.
+//! Texts as pieces, which are words and the spaces between them, and the ways to leave some out.
+
+use std::iter::successors;
 
 /// Of the bytes from `from` to `to` those from `kept` to `kept_to` alone are kept.
 #[derive(Clone, Copy)]
@@ -7,21 +9,26 @@ pub struct Narrowing {
     to: usize,
     kept: usize,
     kept_to: usize,
+    /// What is put in where bytes are left out, so that words stay apart.
+    between: &'static [u8],
 }
 
 impl Narrowing {
-    fn dropped(from: usize, to: usize) -> Narrowing {
+    fn dropped(from: usize, to: usize, between: &'static [u8]) -> Narrowing {
         Narrowing {
             from,
             to,
             kept: to,
             kept_to: to,
+            between,
         }
     }
 
     pub fn of(&self, text: &[u8]) -> Vec<u8> {
         let kept = &text[self.kept..self.kept_to];
-        [&text[..self.from], kept, &text[self.to..]].concat()
+        let mut left = vec![&text[..self.from], kept, &text[self.to..]];
+        left.retain(|bytes| !bytes.is_empty());
+        left.join(self.between)
     }
 }
 
@@ -29,9 +36,11 @@ impl Narrowing {
 type Piece<'a> = (usize, &'a [u8]);
 
 fn pieces(text: &[u8]) -> Vec<Piece<'_>> {
-    let both = |one: &u8, next: &u8| one.is_ascii_alphanumeric() && next.is_ascii_alphanumeric();
+    let letter = u8::is_ascii_alphanumeric;
+    let space = |byte: &u8| matches!(byte, b' ' | b'\n');
+    let one_piece = |a: &u8, b: &u8| letter(a) && letter(b) || space(a) && space(b);
     let mut begin = 0;
-    let pieces = text.chunk_by(both).map(|bytes| {
+    let pieces = text.chunk_by(one_piece).map(|bytes| {
         let piece = (begin, bytes);
         begin += bytes.len();
         piece
@@ -48,27 +57,26 @@ pub fn narrowings(text: &[u8]) -> Vec<Narrowing> {
     let pieces = pieces(text);
     let mut narrowings = stretches(&pieces, text.len());
     narrowings.extend(compounds(&pieces).iter().flat_map(|own| parts(own)));
-    narrowings.extend((0..text.len()).map(|at| Narrowing::dropped(at, at + 1)));
+    narrowings.extend((0..text.len()).map(|at| Narrowing::dropped(at, at + 1, b"")));
     narrowings
 }
 
-/// Each stretch of pieces, the longest first; of many pieces the halves, the quarters and so on.
+/// All pieces, each half of them, each quarter and so on, and then each stretch of few pieces.
 fn stretches(pieces: &[Piece], end: usize) -> Vec<Narrowing> {
-    const FEW: usize = 64;
+    /// As many as a short statement has.
+    const FEW: usize = 12;
+    /// Among more pieces than these, to try every stretch of few would take too long.
+    const MANY: usize = 2_000;
+    let count = pieces.len();
+    let few = if count > MANY { 1 } else { FEW };
+    let halves = successors(Some(count), |length| Some(length / 2));
+    let halves = halves.take_while(|length| *length > few);
+    let halves = halves.flat_map(|length| (0..count).step_by(length).map(move |at| (at, length)));
+    let each = (1..=few).rev();
+    let each = each.flat_map(|length| (0..count).map(move |at| (at, length)));
     let begin = |piece: usize| pieces.get(piece).map_or(end, |(begin, _)| *begin);
-    let mut stretches = Vec::new();
-    let mut length = pieces.len();
-    while length > 0 {
-        let (step, next) = if pieces.len() <= FEW {
-            (1, length - 1)
-        } else {
-            (length, length / 2)
-        };
-        let firsts = (0..pieces.len()).step_by(step);
-        stretches.extend(firsts.map(|at| Narrowing::dropped(begin(at), begin(at + length))));
-        length = next;
-    }
-    stretches
+    let dropped = |(at, length)| Narrowing::dropped(begin(at), begin(at + length), b" ");
+    halves.chain(each).map(dropped).collect()
 }
 
 /// The own words of each statement and expression that has parts, as `if`, `then`, `else`, `end`.
@@ -108,5 +116,6 @@ fn parts<'a>(own: &'a [Piece]) -> impl Iterator<Item = Narrowing> + 'a {
         to,
         kept: end(&two[0]),
         kept_to: two[1].0,
+        between: b" ",
     })
 }
