@@ -17,7 +17,7 @@ use Rattle.spans.specs.Cut.{from}
 use Rattle.reader.specs.Machine.{Symbol, expr, exactly, operator, run}
 use Rattle.reader.specs.Rows.{rowPut, rowsPut}
 use Rattle.reader.specs.Statements.{Led}
-use Rattle.reader.specs.Frames.{Frame, waiting, having, framesTokens, framesSize, framesRows, Entries, Whole, nothing, just, wholeTokens, Standing}
+use Rattle.reader.specs.Frames.{Frame, waiting, having, framesTokens, framesSize, framesRows, framesOwed, mostHeld, Entries, Whole, nothing, just, wholeTokens, Standing}
 use Rattle.reader.specs.declared.expressions.Inside.{Inside}
 use Rattle.reader.proofs.RowLaws.{rowsPut-last, exprRows-length}
 use Rattle.reader.proofs.RunLaws.{joined, run-sign, run-opening, run-expr}
@@ -57,11 +57,25 @@ run-reached frames (just e) ts k = run-frames frames (exprTokens e ++ ts) k ∙ 
 
 -- ---- the entries of what is open
 
-entries-above : (first : ℕ) (held : List ℕ) (i v : ℕ) (frames : List Frame) → length frames ≤ i → Entries first held frames
-    → Entries first (set held i v) frames
-entries-above first held i v [] h entries = tt
-entries-above first held i v (frame ∷ frames) h (entry, entries) =
-    (getD-set-other held i (length frames) v 0 (λ e. omega arith) ∙ entry, entries-above first held i v frames (omega arith) entries)
+-- one more is opened, or is gone on with, at a depth over theirs
+entries-above : (first : ℕ) (held : List ℕ) (i v least more : ℕ) (frames : List Frame) → length frames ≤ i → 4 * (i + 1) ≤ more → least ≤ more
+    → Entries first held least frames → Entries first (set held (i % mostHeld) v) more frames
+entries-above first held i v least more [] h owed later entries = tt
+entries-above first held i v least more (frame ∷ frames) h owed later (entry, entries) = (
+  (λ few. getD-set-other held (i % mostHeld) (length frames % mostHeld) v 0 (λ e. omega arith) ∙ entry (omega arith)),
+  entries-above first held i v least more frames (omega arith) owed later entries,
+)
+
+entries-later : (first : ℕ) (held : List ℕ) (least more : ℕ) (frames : List Frame) → least ≤ more → Entries first held least frames
+    → Entries first held more frames
+entries-later first held least more [] later entries = tt
+entries-later first held least more (frame ∷ frames) later (entry, entries) =
+    ((λ few. entry (omega arith)), entries-later first held least more frames later entries)
+
+pub frames-owed : (frames : List Frame) → framesOwed frames ≤ 3 * length frames
+frames-owed [] = omega arith
+frames-owed (waiting ∷ frames) = let outer = frames-owed frames in omega arith
+frames-owed (having e o ∷ frames) = let outer = frames-owed frames in omega arith
 
 frames-length : (first : ℕ) (frames : List Frame) → length (framesRows first frames) ≡ framesSize frames
 frames-length first [] = refl
@@ -91,12 +105,13 @@ row-more first count quads all quad before rows put counted e =
     ∙ ap (λ (l : List Quad). rowsPut first l before) e
 
 module _ {text : List ℕ} {at first : ℕ} {before : List ℕ} {s : Inside} {rows held : List ℕ} {frames : List Frame} {end : ℕ} where
-  pub open-one : Led text (s .at) word.opening end → s .depth < length held → Standing text at first before s rows held frames nothing
-      → Standing text at first before (record { at = end; count = s .count; depth = s .depth + 1; whole = false }) rows (set held (s .depth) 0) (waiting ∷ frames) nothing
+  pub open-one : Led text (s .at) word.opening end → s .depth % mostHeld < length held → Standing text at first before s rows held frames nothing
+      → Standing text at first before (record { at = end; count = s .count; depth = s .depth + 1; whole = false }) rows (set held (s .depth % mostHeld) 0) (waiting ∷ frames) nothing
   open-one next room st =
       let few = st .few in
       let further = next .on in
       let depth : s .depth ≡ length frames = st .depth in
+      let owed = st .owed in
       record {
         mode = refl;
         depth = omega arith;
@@ -106,9 +121,10 @@ module _ {text : List ℕ} {at first : ℕ} {before : List ℕ} {s : Inside} {ro
         later = later-on (st .later) (next .later);
         put = st .put;
         counted = st .counted;
+        owed = omega arith;
         entries = (
-          ap (λ (n : ℕ). getD (set held (s .depth) 0) n 0) (sym depth) ∙ getD-set-same held (s .depth) 0 0 room,
-          entries-above first held (s .depth) 0 frames (omega arith) (st .entries),
+          (λ few. ap (λ (n : ℕ). getD (set held (s .depth % mostHeld) 0) (n % mostHeld) 0) (sym depth) ∙ getD-set-same held (s .depth % mostHeld) 0 0 room),
+          entries-above first held (s .depth) 0 _ _ frames (omega arith) (omega arith) (omega arith) (st .entries),
         );
         few = omega arith;
       }
@@ -135,21 +151,23 @@ module _ {text : List ℕ} {at first : ℕ} {before : List ℕ} {s : Inside} {ro
             (st .put ∙ ap (λ (l : List Quad). rowsPut first l before) (append-nil (framesRows first frames))) (omega arith)
             (ap (λ (l : List Quad). framesRows first frames ++ l) (sym (row (first + framesSize frames))));
         counted = omega arith;
-        entries = st .entries;
+        owed = omega (arith, st .owed);
+        entries = entries-later first held _ _ frames (omega arith) (st .entries);
         few = omega arith;
       }
 
   -- the operator after a left side
-  pub sign-one : {o : Operator} {e : Expr} {last entry : ℕ} → Led text (s .at) (word.sign o) end → s .depth ≡ last + 1 → last < length held
+  pub sign-one : {o : Operator} {e : Expr} (last : ℕ) {entry : ℕ} → Led text (s .at) (word.sign o) end → s .depth ≡ last + 1 → last % mostHeld < length held
       → entry ≡ (s .count - 1) * 8 + operatorNumber o + 1
       → Standing text at first before s rows held (waiting ∷ frames) (just e)
-      → Standing text at first before (record { at = end; count = s .count; depth = last + 1; whole = false }) rows (set held last entry) (having e o ∷ frames) nothing
-  sign-one {o} {e} {last} {entry} next deep room is st =
+      → Standing text at first before (record { at = end; count = s .count; depth = last + 1; whole = false }) rows (set held (last % mostHeld) entry) (having e o ∷ frames) nothing
+  sign-one {o} {e} last {entry} next deep room is st =
       let few = st .few in
       let further = next .on in
       let counted = st .counted in
       let depth : last ≡ length frames = omega (arith, st .depth) in
       let top : s .count - 1 ≡ first + framesSize frames + exprBelow e = omega arith in
+      let owed = st .owed in
       record {
         mode = refl;
         depth = omega arith;
@@ -160,10 +178,12 @@ module _ {text : List ℕ} {at first : ℕ} {before : List ℕ} {s : Inside} {ro
         later = later-on (st .later) (next .later);
         put = st .put ∙ ap (λ (l : List Quad). rowsPut first l before) (sym (append-nil (framesRows first frames ++ exprRows (first + framesSize frames) e)));
         counted = omega arith;
+        owed = omega arith;
         entries = (
-          ap (λ (n : ℕ). getD (set held last entry) n 0) (sym depth) ∙ getD-set-same held last entry 0 room
-              ∙ is ∙ ap (λ (n : ℕ). n * 8 + operatorNumber o + 1) top,
-          entries-above first held last entry frames (omega arith) (st .entries .1),
+          (λ few.
+              ap (λ (n : ℕ). getD (set held (last % mostHeld) entry) (n % mostHeld) 0) (sym depth)
+              ∙ getD-set-same held (last % mostHeld) entry 0 room ∙ is ∙ ap (λ (n : ℕ). n * 8 + operatorNumber o + 1) top),
+          entries-above first held last entry _ _ frames (omega arith) (omega arith) (omega arith) (st .entries .1),
         );
         few = omega arith;
       }
@@ -171,10 +191,10 @@ module _ {text : List ℕ} {at first : ℕ} {before : List ℕ} {s : Inside} {ro
   -- the end after a right side
   pub close-one : {o : Operator} {e f : Expr} {last entry : ℕ} {left : List ℕ}
       → left ≡ rowPut (s .count) (10, (entry - 1) % 8, (entry - 1) / 8, s .count - 1) rows → Led text (s .at) word.closing end → s .depth ≡ last + 1
-      → entry ≡ getD held last 0
+      → entry ≡ getD held (last % mostHeld) 0 → s .at + framesOwed frames + 3 < 4 * (length frames + mostHeld + 1)
       → Standing text at first before s rows held (having e o ∷ frames) (just f)
       → Standing text at first before (record { at = end; count = s .count + 1; depth = last; whole = true }) left held frames (just (binary o e f))
-  close-one {o} {e} {f} {last} {entry} put next deep is st =
+  close-one {o} {e} {f} {last} {entry} put next deep is near st =
       let few = st .few in
       let further = next .on in
       let counted = st .counted in
@@ -184,7 +204,7 @@ module _ {text : List ℕ} {at first : ℕ} {before : List ℕ} {s : Inside} {ro
       let size = frames-length first frames in
       let first-size = exprRows-length e base in
       let second-size = exprRows-length f (base + exprSize e) in
-      let opened : entry ≡ (base + exprBelow e) * 8 + operatorNumber o + 1 = is ∙ ap (λ (n : ℕ). getD held n 0) depth ∙ st .entries .0 in
+      let opened : entry ≡ (base + exprBelow e) * 8 + operatorNumber o + 1 = is ∙ ap (λ (n : ℕ). getD held (n % mostHeld) 0) depth ∙ st .entries .0 (omega arith) in
       let few-signs = sign-few o in
       let sign : (entry - 1) % 8 ≡ operatorNumber o = omega arith in
       let row : (entry - 1) / 8 ≡ base + exprBelow e = omega arith in
@@ -208,6 +228,7 @@ module _ {text : List ℕ} {at first : ℕ} {before : List ℕ} {s : Inside} {ro
             (simp length-append (omega arith))
             (simp append-assoc);
         counted = omega arith;
-        entries = st .entries .1;
+        owed = omega (arith, st .owed);
+        entries = entries-later first held _ _ frames (omega arith) (st .entries .1);
         few = omega arith;
       }

@@ -22,7 +22,7 @@ use Rattle.rules.specs.Limits.{tableWords}
 use Rattle.reader.specs.Rows.{rowPut, rowsPut}
 use Rattle.reader.specs.Steps.{Asked, Stuck, Read, expressions}
 use Rattle.reader.specs.Statements.{Led}
-use Rattle.reader.specs.Frames.{Frame, waiting, having, Whole, nothing, just, framesTokens, wholeTokens, Ready, Standing, Reached, Turned}
+use Rattle.reader.specs.Frames.{Frame, waiting, having, mostHeld, framesOwed, Whole, nothing, just, framesTokens, wholeTokens, Ready, Standing, Reached, Turned}
 use Rattle.reader.specs.declared.atoms.Atom.{Atom}
 use Rattle.reader.specs.declared.expressions.Inside.{Inside}
 use Rattle.reader.specs.declared.expressions.Turn.{Turn}
@@ -31,7 +31,7 @@ use Rattle.reader.proofs.SpellLaws.{spells-opening, spells-closing}
 use Rattle.reader.proofs.AtomLaws.{atom-is}
 use Rattle.reader.proofs.RowLaws.{rowPut-length}
 use Rattle.reader.proofs.PlaceLaws.{later-self, led-token, led-key, stuck-more, stuck-past, stuck-cut}
-use Rattle.reader.proofs.FrameLaws.{symbolsAfter, run-reached, sign-few, open-one, put-one, sign-one, close-one}
+use Rattle.reader.proofs.FrameLaws.{symbolsAfter, run-reached, frames-owed, sign-few, open-one, put-one, sign-one, close-one}
 
 -- ---- what a word is
 
@@ -133,17 +133,14 @@ module _ {text : List ℕ} {s : Inside} {rows held : List ℕ} {span : Span} {by
     opening-led : same (40 ∷ []) bytes ≡ true → Led text (s .at) word.opening (span .end)
     opening-led key = led-key cut is refl key spells-opening
 
-    pub opening-room : same (40 ∷ []) bytes ≡ true → s .depth < mostTextBytes
-    opening-room key = omega (arith, opening-led key .on, cut .inside, ready .low, ready .short)
-
     pub opened : same (40 ∷ []) bytes ≡ true
-        → Turned text s rows held (went (span .end) (s .count) (s .depth + 1) false) rows (set held (s .depth) 0)
+        → Turned text s rows held (went (span .end) (s .count) (s .depth + 1) false) rows (set held (s .depth % mostHeld) 0)
     opened key =
         let next = opening-led key in
         let further = next .on in
-        let room : s .depth < length held = omega (arith, opening-room key, ready .held-long) in (
+        let room : s .depth % mostHeld < length held = omega (arith, ready .held-long) in (
           further,
-          ready-on further refl (omega arith) (omega arith) (λ e. clash (cc)) refl (length-set held (s .depth) 0),
+          ready-on further refl (omega arith) (omega arith) (λ e. clash (cc)) refl (length-set held (s .depth % mostHeld) 0),
           λ _ _ _ reached.
               let old = begun reached in
               (waiting ∷ old .0, nothing, open-one next room (old .1)),
@@ -191,33 +188,37 @@ module _ {text : List ℕ} {s : Inside} {rows held : List ℕ} {span : Span} {by
     closing-led : same (41 ∷ []) bytes ≡ true → Led text (s .at) word.closing (span .end)
     closing-led key = led-key cut is refl key spells-closing
 
+    -- the entry of the innermost parenthesis stands where its depth says
+    in-sight : (frames : List Frame) → s .at + framesOwed frames + 3 < 4 * (length frames + mostHeld + 1)
+    in-sight frames = omega (arith, frames-owed frames, ready .inside, ready .short)
+
     -- a parenthesis whose left side was read
-    pending : getD held last 0 ≡ 0 → {at first : ℕ} {before : List ℕ} → Reached text at first before s rows held
+    pending : getD held (last % mostHeld) 0 ≡ 0 → {at first : ℕ} {before : List ℕ} → Reached text at first before s rows held
         → (frames : List Frame) × (e : Expr) × Standing text at first before s rows held (waiting ∷ frames) (just e)
     pending empty (frames, nothing, st) = clash (cc (st .mode))
     pending empty ([], just e, st) = absurd (omega (arith, st .depth))
     pending empty (waiting ∷ frames, just e, st) = (frames, e, st)
     pending empty (having left o ∷ frames, just e, st) =
         let here : last ≡ length frames = omega (arith, st .depth) in
-        let entry = st .entries .0 in
-        let zero : getD held (length frames) 0 ≡ 0 = ap (λ (n : ℕ). getD held n 0) (sym here) ∙ empty in
+        let entry = st .entries .0 (omega (arith, in-sight frames)) in
+        let zero : getD held (length frames % mostHeld) 0 ≡ 0 = ap (λ (n : ℕ). getD held (n % mostHeld) 0) (sym here) ∙ empty in
         absurd (omega arith)
 
     -- a parenthesis whose right side was read
-    paired : (getD held last 0 ≡ 0 → ⊥) → {at first : ℕ} {before : List ℕ} → Reached text at first before s rows held
+    paired : (getD held (last % mostHeld) 0 ≡ 0 → ⊥) → {at first : ℕ} {before : List ℕ} → Reached text at first before s rows held
         → (frames : List Frame) × (left : Expr) × (o : Operator) × (e : Expr) × Standing text at first before s rows held (having left o ∷ frames) (just e)
     paired full (frames, nothing, st) = clash (cc (st .mode))
     paired full ([], just e, st) = absurd (omega (arith, st .depth))
     paired full (waiting ∷ frames, just e, st) =
         let here : last ≡ length frames = omega (arith, st .depth) in
-        absurd (full (ap (λ (n : ℕ). getD held n 0) here ∙ st .entries .0))
+        absurd (full (ap (λ (n : ℕ). getD held (n % mostHeld) 0) here ∙ st .entries .0 (omega (arith, in-sight frames))))
     paired full (having left o ∷ frames, just e, st) = (frames, left, o, e, st)
 
-    room : last < length held
-    room = omega (arith, ready .low, ready .inside, ready .short, ready .held-long)
+    room : last % mostHeld < length held
+    room = omega (arith, ready .held-long)
 
-    pub signed : {sign entry : ℕ} → getD held last 0 ≡ 0 → sign ≡ signNumber (tokenOf bytes) → (sign ≡ 6 → ⊥) → entry ≡ (s .count - 1) * 8 + sign + 1
-        → Turned text s rows held (went (span .end) (s .count) (last + 1) false) rows (set held last entry)
+    pub signed : {sign entry : ℕ} → getD held (last % mostHeld) 0 ≡ 0 → sign ≡ signNumber (tokenOf bytes) → (sign ≡ 6 → ⊥) → entry ≡ (s .count - 1) * 8 + sign + 1
+        → Turned text s rows held (went (span .end) (s .count) (last + 1) false) rows (set held (last % mostHeld) entry)
     unfolding signNumber
     signed {sign} {entry} empty number some made =
         let found = is-signed (tokenOf bytes) (λ six. some (number ∙ six)) in
@@ -226,16 +227,16 @@ module _ {text : List ℕ} {s : Inside} {rows held : List ℕ} {span : Span} {by
         let further = next .on in
         let is-number : sign ≡ operatorNumber o = number ∙ ap signNumber (found .1) in (
           further,
-          ready-on further refl (omega arith) (omega arith) (λ e. clash (cc)) refl (length-set held last entry),
+          ready-on further refl (omega arith) (omega arith) (λ e. clash (cc)) refl (length-set held (last % mostHeld) entry),
           λ _ _ _ reached.
               let old = pending empty reached in (
                 having (old .1) o ∷ old .0,
                 nothing,
-                sign-one next (omega arith) room (omega arith) (old .2),
+                sign-one last next (omega arith) room (omega arith) (old .2),
               ),
         )
 
-    pub unsigned : getD held last 0 ≡ 0 → signNumber (tokenOf bytes) ≡ 6 → Turned text s rows held (Turn.Faulty (span .start) (span .end)) rows held
+    pub unsigned : getD held (last % mostHeld) 0 ≡ 0 → signNumber (tokenOf bytes) ≡ 6 → Turned text s rows held (Turn.Faulty (span .start) (span .end)) rows held
     unsigned empty none = (
       ready .rows-long,
       ready .held-long,
@@ -245,7 +246,7 @@ module _ {text : List ℕ} {s : Inside} {rows held : List ℕ} {span : Span} {by
     )
 
     pub closed : {entry : ℕ} {left : List ℕ} → left ≡ rowPut (s .count) (10, (entry - 1) % 8, (entry - 1) / 8, s .count - 1) rows
-        → entry ≡ getD held last 0 → (entry ≡ 0 → ⊥) → same (41 ∷ []) bytes ≡ true
+        → entry ≡ getD held (last % mostHeld) 0 → (entry ≡ 0 → ⊥) → same (41 ∷ []) bytes ≡ true
         → Turned text s rows held (went (span .end) (s .count + 1) last true) left held
     closed {entry} put is-entry full key =
         let next = closing-led key in
@@ -257,11 +258,11 @@ module _ {text : List ℕ} {s : Inside} {rows held : List ℕ} {span : Span} {by
               let old = paired (λ zero. full (is-entry ∙ zero)) reached in (
                 old .0,
                 just (binary (old .2) (old .1) (old .3)),
-                close-one put next (omega arith) is-entry (old .4),
+                close-one put next (omega arith) is-entry (in-sight (old .0)) (old .4),
               ),
         )
 
-    pub unclosed : (getD held last 0 ≡ 0 → ⊥) → same (41 ∷ []) bytes ≡ false → Turned text s rows held (Turn.Faulty (span .start) (span .end)) rows held
+    pub unclosed : (getD held (last % mostHeld) 0 ≡ 0 → ⊥) → same (41 ∷ []) bytes ≡ false → Turned text s rows held (Turn.Faulty (span .start) (span .end)) rows held
     unclosed full key = (
       ready .rows-long,
       ready .held-long,
@@ -272,7 +273,7 @@ module _ {text : List ℕ} {s : Inside} {rows held : List ℕ} {span : Span} {by
 
 -- ---- the whole expression
 
-pub at-first : (text : List ℕ) (at first : ℕ) (rows held : List ℕ) → Asked text at first rows → length held ≡ mostTextBytes
+pub at-first : (text : List ℕ) (at first : ℕ) (rows held : List ℕ) → Asked text at first rows → length held ≡ mostHeld
     → Ready text (inside-at at first 0 false) rows held
     × Reached text at first rows (inside-at at first 0 false) rows held
 unfolding rowsPut
@@ -296,6 +297,7 @@ at-first text at first rows held asked long = (
       later = later-self;
       put = refl;
       counted = omega arith;
+      owed = omega arith;
       entries = tt;
       few = omega arith;
     },
@@ -314,17 +316,17 @@ module _ (text : List ℕ) (s : Inside) (rows held : List ℕ) (turn : Turn) (le
     went-on s′ e = let went = told (Turn.Went s′) e in (went .1, went .2 at first before reached)
 
     pub went-wrong : (start end : ℕ) → turn ≡ Turn.Faulty start end
-        → (Stuck text at (expr ∷ []) start end × (length left ≡ tableWords)) × (length held′ ≡ mostTextBytes)
+        → (Stuck text at (expr ∷ []) start end × (length left ≡ tableWords)) × (length held′ ≡ mostHeld)
     went-wrong start end e =
         let fault = told (Turn.Faulty start end) e in
         ((fault .2 at first before reached, fault .0), fault .1)
 
     pub went-over : Ready text s rows held → turn ≡ Turn.Over
-        → Read expressions text at first before (s .at) (s .count) left × (length held′ ≡ mostTextBytes)
+        → Read expressions text at first before (s .at) (s .count) left × (length held′ ≡ mostHeld)
     went-over ready e = by reached (told Turn.Over e)
       where
         by : Reached text at first before s rows held → Turned text s rows held Turn.Over left held′
-            → Read expressions text at first before (s .at) (s .count) left × (length held′ ≡ mostTextBytes)
+            → Read expressions text at first before (s .at) (s .count) left × (length held′ ≡ mostHeld)
         by (frames, nothing, st) (whole, shut, same-rows, same-held) = clash (cc (st .mode))
         by (frame ∷ frames, just tree, st) (whole, shut, same-rows, same-held) = absurd (omega (arith, st .depth))
         by ([], just tree, st) (whole, shut, same-rows, same-held) =

@@ -1,5 +1,5 @@
 -- An expression that is being read: what is open, and what of it has been read.
-use Prim.Native.Nat.{ℕ, _+_, _*_, _≤_, _<_}
+use Prim.Native.Nat.{ℕ, _+_, _*_, _/_, _%_, _≤_, _<_}
 use mathlib.Core.Bool.{Bool, true, false}
 use mathlib.Core.List.{List, [], _∷_, _++_}
 use mathlib.Core.Path.{_≡_}
@@ -41,14 +41,28 @@ framesRows base [] = []
 framesRows base (waiting ∷ frames) = framesRows base frames
 framesRows base (having e o ∷ frames) = framesRows base frames ++ exprRows (base + framesSize frames) e
 
+-- how many bytes at least still come, for what is open: an operator, an expression and the end after a left side, the end after a right one
+abbrev pub framesOwed : List Frame → ℕ
+framesOwed [] = 0
+framesOwed (waiting ∷ frames) = framesOwed frames + 3
+framesOwed (having e o ∷ frames) = framesOwed frames + 1
+
+-- how many entries are held: a parenthesis takes four bytes at least
+abbrev pub mostHeld : ℕ
+mostHeld = mostTextBytes / 4
+
 -- the entry that stands for a parenthesis, where these are around it
 abbrev pub entryOf : ℕ → List Frame → Frame → ℕ
 entryOf base frames waiting = 0
 entryOf base frames (having e o) = (base + framesSize frames + exprBelow e) * 8 + operatorNumber o + 1
 
-abbrev pub Entries : ℕ → List ℕ → List Frame → Type 0
-Entries base held [] = Unit {0}
-Entries base held (frame ∷ frames) = (getD held (length frames) 0 ≡ entryOf base frames frame) × Entries base held frames
+-- The entry of each parenthesis stands where its depth says, unless what is open cannot be closed before so many bytes: then one that
+-- was opened later may stand there.
+abbrev pub Entries : ℕ → List ℕ → ℕ → List Frame → Type 0
+Entries base held least [] = Unit {0}
+Entries base held least (frame ∷ frames) =
+    (least < 4 * (length frames + mostHeld + 1) → getD held (length frames % mostHeld) 0 ≡ entryOf base frames frame)
+    × Entries base held least frames
 
 -- the expression that was just read to its end, or none
 pub data Whole : Type 0 where
@@ -67,6 +81,10 @@ abbrev pub wholeSize : Whole → ℕ
 wholeSize nothing = 0
 wholeSize (just e) = exprSize e
 
+abbrev pub wholeOwed : Whole → ℕ
+wholeOwed nothing = 1
+wholeOwed (just e) = 0
+
 abbrev pub wholeRows : ℕ → Whole → List Quad
 wholeRows base nothing = []
 wholeRows base (just e) = exprRows base e
@@ -79,7 +97,7 @@ pub record Ready (text : List ℕ) (s : Inside) (rows held : List ℕ) : Type 0 
   pub low : s .depth ≤ s .at
   pub some : s .whole ≡ true → 0 < s .count
   pub rows-long : length rows ≡ tableWords
-  pub held-long : length held ≡ mostTextBytes
+  pub held-long : length held ≡ mostHeld
 
 -- An expression that begins at a place, with its first row at first, is read as far as this: these parentheses are open.
 pub record Standing (text : List ℕ) (at first : ℕ) (before : List ℕ) (s : Inside) (rows held : List ℕ) (frames : List Frame) (whole : Whole) : Type 0 where
@@ -89,7 +107,8 @@ pub record Standing (text : List ℕ) (at first : ℕ) (before : List ℕ) (s : 
   pub later : Later text at (s .at)
   pub put : rows ≡ rowsPut first (framesRows first frames ++ wholeRows (first + framesSize frames) whole) before
   pub counted : s .count ≡ first + framesSize frames + wholeSize whole
-  pub entries : Entries first held frames
+  pub owed : 4 * length frames ≤ s .at + framesOwed frames + wholeOwed whole
+  pub entries : Entries first held (s .at + framesOwed frames + wholeOwed whole) frames
   pub few : s .count + at ≤ first + s .at
 
 abbrev pub Reached : List ℕ → ℕ → ℕ → List ℕ → Inside → List ℕ → List ℕ → Type 0
@@ -103,5 +122,5 @@ Turned text s rows held (Turn.Went s′) left held′ =
     × ((at first : ℕ) (before : List ℕ) → Reached text at first before s rows held → Reached text at first before s′ left held′)
 Turned text s rows held Turn.Over left held′ = (s .whole ≡ true) × (s .depth ≡ 0) × (left ≡ rows) × (held′ ≡ held)
 Turned text s rows held (Turn.Faulty start end) left held′ =
-    (length left ≡ tableWords) × (length held′ ≡ mostTextBytes)
+    (length left ≡ tableWords) × (length held′ ≡ mostHeld)
     × ((at first : ℕ) (before : List ℕ) → Reached text at first before s rows held → Stuck text at (expr ∷ []) start end)

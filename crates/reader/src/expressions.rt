@@ -21,9 +21,13 @@ ghost use Rattle.rules.specs.Limits.{highestOperator};
 ghost use Rattle.language.specs.Limits.{mostTextBytes};
 ghost use Rattle.reader.specs.Machine.{expr};
 ghost use Rattle.reader.specs.Steps.{Asked, Stepped, expressions};
-ghost use Rattle.reader.specs.Frames.{Ready, Turned};
+ghost use Rattle.reader.specs.Frames.{mostHeld, Ready, Turned};
 
 pub const MOST_TEXT: usize = 16384;
+
+// As many parentheses as a text can open and close again within each other, four bytes each. Of more the outer ones are never come
+// back to, and their entries are laid over.
+pub const MOST_HELD: usize = 4096;
 
 // An entry has room for so many operators beside a row.
 const SIGNS: u32 = 8;
@@ -58,7 +62,7 @@ fn entry_of(row: u32, sign: u32) -> u32
 }
 
 // Reads a word where an expression begins: a parenthesis, a number or a variable.
-fn begin(text: &[u8], s: Inside, rows: &mut [u32; TABLE_WORDS], held: &mut [u32; MOST_TEXT]) -> Turn
+fn begin(text: &[u8], s: Inside, rows: &mut [u32; TABLE_WORDS], held: &mut [u32; MOST_HELD]) -> Turn
     requires { ⌜ Ready (now text) s (now rows) (now held) × (s .whole ≡ false) ⌝ }
     ensures { λ r. ⌜
         Turned (now (text .entry)) s (now (rows .entry)) (now (held .entry)) r (now (rows .exit)) (now (held .exit)) ⌝ }
@@ -70,7 +74,7 @@ fn begin(text: &[u8], s: Inside, rows: &mut [u32; TABLE_WORDS], held: &mut [u32;
     let depth = s.depth;
     let count = s.count;
     if is_key(word, b"(") {
-        held[depth] = 0;
+        held[depth % MOST_HELD] = 0;
         return Turn::Went(Inside {
             at: end,
             count,
@@ -103,7 +107,7 @@ fn begin(text: &[u8], s: Inside, rows: &mut [u32; TABLE_WORDS], held: &mut [u32;
 }
 
 // Reads a word after an expression: within parentheses the operator after a left side, or the end after a right one.
-fn go_on(text: &[u8], s: Inside, rows: &mut [u32; TABLE_WORDS], held: &mut [u32; MOST_TEXT]) -> Turn
+fn go_on(text: &[u8], s: Inside, rows: &mut [u32; TABLE_WORDS], held: &mut [u32; MOST_HELD]) -> Turn
     requires { ⌜ Ready (now text) s (now rows) (now held) × (s .whole ≡ true) ⌝ }
     ensures { λ r. ⌜
         Turned (now (text .entry)) s (now (rows .entry)) (now (held .entry)) r (now (rows .exit)) (now (held .exit)) ⌝ }
@@ -117,13 +121,13 @@ fn go_on(text: &[u8], s: Inside, rows: &mut [u32; TABLE_WORDS], held: &mut [u32;
     let word = word_part(text, start, end);
     let count = s.count;
     let last = s.depth - 1;
-    let entry = held[last];
+    let entry = held[last % MOST_HELD];
     if entry == 0 {
         let sign = sign_of(word);
         if sign == NO_SIGN {
             return Turn::Faulty { start, end };
         }
-        held[last] = entry_of(count - 1, sign);
+        held[last % MOST_HELD] = entry_of(count - 1, sign);
         return Turn::Went(Inside {
             at: end,
             count,
@@ -155,7 +159,7 @@ fn read_word(
     text: &[u8],
     s: Inside,
     rows: &mut [u32; TABLE_WORDS],
-    held: &mut [u32; MOST_TEXT],
+    held: &mut [u32; MOST_HELD],
 ) -> Turn
     requires { ⌜ Ready (now text) s (now rows) (now held) ⌝ }
     ensures { λ r. ⌜
@@ -173,12 +177,12 @@ pub fn read_expression(
     from: usize,
     first: u32,
     rows: &mut [u32; TABLE_WORDS],
-    held: &mut [u32; MOST_TEXT],
+    held: &mut [u32; MOST_HELD],
 ) -> Step
-    requires { ⌜ Asked (now text) from first (now rows) × (length (now held) ≡ mostTextBytes) ⌝ }
+    requires { ⌜ Asked (now text) from first (now rows) × (length (now held) ≡ mostHeld) ⌝ }
     ensures { λ r. ⌜
         Stepped expressions (expr ∷ []) (now (text .entry)) from first (now (rows .entry)) r (now (rows .exit))
-        × (length (now (held .exit)) ≡ mostTextBytes) ⌝ }
+        × (length (now (held .exit)) ≡ mostHeld) ⌝ }
 {
     let mut s = Inside {
         at: from,

@@ -5,6 +5,7 @@ mod head;
 mod put;
 mod statements;
 
+use crate::expressions::MOST_HELD;
 use crate::expressions::MOST_TEXT;
 use crate::expressions::Step;
 use crate::head::Head;
@@ -27,6 +28,7 @@ ghost use lib.ListN.{length};
 ghost use Rattle.language.specs.Limits.{mostTextBytes};
 ghost use Rattle.language.specs.Readings.{Reads};
 ghost use Rattle.reader.specs.declared.head.Head.{Head};
+ghost use Rattle.reader.specs.Frames.{mostHeld};
 ghost use Rattle.reader.specs.Heads.{HeadRead};
 ghost use Rattle.rules.specs.Limits.{tableWords};
 ghost use Rattle.reader.specs.Wholes.{turnedAway, answered, Made};
@@ -107,12 +109,12 @@ fn read_body(
     text: &[u8],
     s: Seen,
     rows: &mut [u32; TABLE_WORDS],
-    held: &mut [u32; MOST_TEXT],
+    held: &mut [u32; MOST_HELD],
     table: &mut [u32],
 ) -> Said
     requires { ⌜
         (length (now text) ≤ mostTextBytes) × HeadRead (now text) (Head.Over s) × (length (now rows) ≡ tableWords)
-        × (length (now held) ≡ mostTextBytes) ⌝ }
+        × (length (now held) ≡ mostHeld) ⌝ }
     ensures { λ r. ⌜ Reads false (now (text .entry)) (now (table .entry)) (answered r (now (table .exit))) ⌝ }
 {
     let block = read_block(text, s.at, 0, rows, held);
@@ -143,7 +145,7 @@ pub fn read_text(text: &[u8], table: &mut [u32]) -> Said
         Head::Faulty { start, end } => refused(FAULTY_WORD, 0, start, end),
         Head::Over(s) => {
             let mut rows = [0; TABLE_WORDS];
-            let mut held = [0; MOST_TEXT];
+            let mut held = [0; MOST_HELD];
             read_body(text, s, &mut rows, &mut held, table)
         }
     }

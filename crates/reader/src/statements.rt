@@ -1,7 +1,7 @@
 // Statements and blocks: their readers call each other. A reader keeps its steps in one local, so that a call takes little stack.
 use crate::atoms::Atom;
 use crate::atoms::atom_of;
-use crate::expressions::MOST_TEXT;
+use crate::expressions::MOST_HELD;
 use crate::expressions::Step;
 use crate::expressions::read_expression;
 use crate::put::ASSIGN;
@@ -18,10 +18,10 @@ use spans::word_part;
 ghost use mathlib.Core.List.{[], _∷_};
 ghost use mathlib.Core.Path.{_≡_};
 ghost use lib.ListN.{length};
-ghost use Rattle.language.specs.Limits.{mostTextBytes};
 ghost use Rattle.language.specs.Tokens as word;
 ghost use Rattle.reader.specs.Machine.{statement};
 ghost use Rattle.reader.specs.Steps.{statements, Asked, Stepped, BlockStepped};
+ghost use Rattle.reader.specs.Frames.{mostHeld};
 ghost use Rattle.reader.specs.Statements.{Looked, Ended, After, OutputAfter};
 
 // 2.8: Channel 0 is the settled one, which the stations read, and channel 1 the provisional one.
@@ -71,12 +71,12 @@ fn read_output(
     count: u32,
     channel: u32,
     rows: &mut [u32; TABLE_WORDS],
-    held: &mut [u32; MOST_TEXT],
+    held: &mut [u32; MOST_HELD],
 ) -> Step
-    requires { ⌜ Asked (now text) from count (now rows) × (length (now held) ≡ mostTextBytes) ⌝ }
+    requires { ⌜ Asked (now text) from count (now rows) × (length (now held) ≡ mostHeld) ⌝ }
     ensures { λ r. ⌜
         OutputAfter channel (now (text .entry)) from count (now (rows .entry)) r (now (rows .exit))
-        × (length (now (held .exit)) ≡ mostTextBytes) ⌝ }
+        × (length (now (held .exit)) ≡ mostHeld) ⌝ }
 {
     let shown = read_expression(text, from, count, rows, held);
     match shown {
@@ -97,12 +97,12 @@ fn read_set(
     from: usize,
     count: u32,
     rows: &mut [u32; TABLE_WORDS],
-    held: &mut [u32; MOST_TEXT],
+    held: &mut [u32; MOST_HELD],
 ) -> Step
-    requires { ⌜ Asked (now text) from count (now rows) × (length (now held) ≡ mostTextBytes) ⌝ }
+    requires { ⌜ Asked (now text) from count (now rows) × (length (now held) ≡ mostHeld) ⌝ }
     ensures { λ r. ⌜
         After word.set (now (text .entry)) from count (now (rows .entry)) r (now (rows .exit))
-        × (length (now (held .exit)) ≡ mostTextBytes) ⌝ }
+        × (length (now (held .exit)) ≡ mostHeld) ⌝ }
 {
     let w = word_at(text, from);
     let start = w.start;
@@ -139,12 +139,12 @@ fn read_if(
     from: usize,
     count: u32,
     rows: &mut [u32; TABLE_WORDS],
-    held: &mut [u32; MOST_TEXT],
+    held: &mut [u32; MOST_HELD],
 ) -> Step
-    requires { ⌜ Asked (now text) from count (now rows) × (length (now held) ≡ mostTextBytes) ⌝ }
+    requires { ⌜ Asked (now text) from count (now rows) × (length (now held) ≡ mostHeld) ⌝ }
     ensures { λ r. ⌜
         After word.if (now (text .entry)) from count (now (rows .entry)) r (now (rows .exit))
-        × (length (now (held .exit)) ≡ mostTextBytes) ⌝ }
+        × (length (now (held .exit)) ≡ mostHeld) ⌝ }
 {
     let mut step = read_expression(text, from, count, rows, held);
     step = ended(text, step, b"then");
@@ -186,12 +186,12 @@ fn read_while(
     from: usize,
     count: u32,
     rows: &mut [u32; TABLE_WORDS],
-    held: &mut [u32; MOST_TEXT],
+    held: &mut [u32; MOST_HELD],
 ) -> Step
-    requires { ⌜ Asked (now text) from count (now rows) × (length (now held) ≡ mostTextBytes) ⌝ }
+    requires { ⌜ Asked (now text) from count (now rows) × (length (now held) ≡ mostHeld) ⌝ }
     ensures { λ r. ⌜
         After word.while (now (text .entry)) from count (now (rows .entry)) r (now (rows .exit))
-        × (length (now (held .exit)) ≡ mostTextBytes) ⌝ }
+        × (length (now (held .exit)) ≡ mostHeld) ⌝ }
 {
     let mut step = read_expression(text, from, count, rows, held);
     step = ended(text, step, b"do");
@@ -223,12 +223,12 @@ pub fn read_statement(
     from: usize,
     count: u32,
     rows: &mut [u32; TABLE_WORDS],
-    held: &mut [u32; MOST_TEXT],
+    held: &mut [u32; MOST_HELD],
 ) -> Step
-    requires { ⌜ Asked (now text) from count (now rows) × (length (now held) ≡ mostTextBytes) ⌝ }
+    requires { ⌜ Asked (now text) from count (now rows) × (length (now held) ≡ mostHeld) ⌝ }
     ensures { λ r. ⌜
         Stepped statements (statement ∷ []) (now (text .entry)) from count (now (rows .entry)) r (now (rows .exit))
-        × (length (now (held .exit)) ≡ mostTextBytes) ⌝ }
+        × (length (now (held .exit)) ≡ mostHeld) ⌝ }
 {
     let w = word_at(text, from);
     let start = w.start;
@@ -265,12 +265,12 @@ pub fn read_block(
     from: usize,
     count: u32,
     rows: &mut [u32; TABLE_WORDS],
-    held: &mut [u32; MOST_TEXT],
+    held: &mut [u32; MOST_HELD],
 ) -> Step
-    requires { ⌜ Asked (now text) from count (now rows) × (length (now held) ≡ mostTextBytes) ⌝ }
+    requires { ⌜ Asked (now text) from count (now rows) × (length (now held) ≡ mostHeld) ⌝ }
     ensures { λ r. ⌜
         BlockStepped (now (text .entry)) from count (now (rows .entry)) r (now (rows .exit))
-        × (length (now (held .exit)) ≡ mostTextBytes) ⌝ }
+        × (length (now (held .exit)) ≡ mostHeld) ⌝ }
 {
     let mut step = read_statement(text, from, count, rows, held);
     match step {

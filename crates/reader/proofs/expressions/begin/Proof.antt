@@ -1,7 +1,7 @@
 -- `reader::expressions::begin` meets its contract. Assumes nothing.
 use mathlib.Core.Path.{sym, _∙_}
 use borrow.Author.Needs.{needs}
-use Rattle.reader.proofs.TurnLaws.{opening-room, opened, constant-put, variable-put, unbegun}
+use Rattle.reader.proofs.TurnLaws.{opened, constant-put, variable-put, unbegun}
 use Rattle.reader.proofs.expressions.begin.Statement.{statement}
 use Rattle.reader.proofs.expressions.begin.Tie as tie
 
@@ -21,13 +21,7 @@ mul-held : tie.Need-mul-held
 mul-held c = search needs
 
 element-write-held : tie.Need-element-write-held
-element-write-held c =
-    let key = c .before in
-    let parted = key .before .before in
-    let at = parted .before in
-    let start = at .before .before in
-    opening-room (start .pre .0) (at .word-at .ensures) (parted .word-part .ensures) (start .pre .1)
-    (sym (key .is-key .ensures) ∙ c .if1 .taken)
+element-write-held c = search needs
 
 add-t18 : tie.Need-add-t18
 add-t18 c = search needs
@@ -53,8 +47,8 @@ enum-known-atom c = search needs
 put-row-requires : tie.Need-put-row-requires
 put-row-requires c κs = search needs
 
-add-t25 : tie.Need-add-t25
-add-t25 c = search needs
+add-t26 : tie.Need-add-t26
+add-t26 c = search needs
 
 enum-known-atom-2 : tie.Need-enum-known-atom-2
 enum-known-atom-2 c = search needs
@@ -62,8 +56,8 @@ enum-known-atom-2 c = search needs
 put-row-requires-2 : tie.Need-put-row-requires-2
 put-row-requires-2 c κs = search needs
 
-add-t29 : tie.Need-add-t29
-add-t29 c = search needs
+add-t30 : tie.Need-add-t30
+add-t30 c = search needs
 
 returns-2 : tie.Need-returns-2
 returns-2 c =
@@ -113,10 +107,10 @@ begin-spec =
     enum-told
     enum-known-atom
     put-row-requires
-    add-t25
+    add-t26
     enum-known-atom-2
     put-row-requires-2
-    add-t29
+    add-t30
     returns-2
     returns-3
     returns-4)

@@ -55,8 +55,8 @@ mul-held c = search needs
 element-write-held : tie.Need-element-write-held
 element-write-held c = search needs
 
-add-t22 : tie.Need-add-t22
-add-t22 c = search needs
+add-t23 : tie.Need-add-t23
+add-t23 c = search needs
 
 returns-3 : tie.Need-returns-3
 returns-3 c =
@@ -99,8 +99,8 @@ sub-put-row-3 c =
 put-row-requires : tie.Need-put-row-requires
 put-row-requires c κs = search needs
 
-add-t18 : tie.Need-add-t18
-add-t18 c = search needs
+add-t19 : tie.Need-add-t19
+add-t19 c = search needs
 
 returns-5 : tie.Need-returns-5
 returns-5 c =
@@ -129,7 +129,7 @@ go-on-spec =
     entry-of-requires
     mul-held
     element-write-held
-    add-t22
+    add-t23
     returns-3
     slice-aggregate-is-key
     is-key-requires
@@ -138,5 +138,5 @@ go-on-spec =
     sub-put-row-2
     sub-put-row-3
     put-row-requires
-    add-t18
+    add-t19
     returns-5)

@@ -4,13 +4,13 @@ use mathlib.Core.List.{[], _∷_}
 use mathlib.Core.Path.{_≡_}
 use lib.ListN.{length}
 use denote.Ref.{now}
-use Rattle.language.specs.Limits.{mostTextBytes}
 use Rattle.rules.specs.declared.Operator.{Operator}
 use Rattle.language.specs.Tokens as word
 use Rattle.reader.specs.Machine.{expr, exactly}
 use Rattle.reader.specs.Steps.{Asked}
 use Rattle.reader.specs.declared.atoms.Atom.{Atom}
 use Rattle.reader.specs.declared.expressions.Step.{Step}
+use Rattle.reader.specs.Frames.{mostHeld}
 use Rattle.reader.specs.Statements.{Led, After}
 use Rattle.reader.proofs.SpellLaws.{spells-equal}
 use Rattle.reader.proofs.PlaceLaws.{stuck-more, lacks-word}
@@ -42,7 +42,7 @@ unnamed :
     (c .before .before .before .before .args .count) (now (c .before .before .before .before .args .rows))
     (Step.Faulty (c .before .before .word-at .result .start) (c .before .before .word-at .result .end))
     (now (c .before .before .before .before .args .rows))
-    × (length (now (c .before .before .before .before .args .held)) ≡ mostTextBytes)
+    × (length (now (c .before .before .before .before .args .held)) ≡ mostHeld)
 unnamed c is nameless =
     let start = c .before .before .before .before in (
       (λ at w. (
