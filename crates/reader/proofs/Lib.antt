@@ -3,6 +3,7 @@ pub mod Clash
 pub mod RunLaws
 pub mod FaultLaws
 pub mod KeyLaws
+pub mod StartLaws
 pub mod SpellLaws
 pub mod RowLaws
 pub mod AtomLaws

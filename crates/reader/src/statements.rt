@@ -12,17 +12,21 @@ use crate::put::SKIP;
 use crate::put::WHILE;
 use crate::put::put_row;
 use rules::TABLE_WORDS;
+use spans::is_joined;
 use spans::is_key;
+use spans::start_at;
 use spans::word_at;
 use spans::word_part;
+ghost use mathlib.Core.Bool.{true};
 ghost use mathlib.Core.List.{[], _∷_};
 ghost use mathlib.Core.Path.{_≡_};
+ghost use Prim.Native.Nat.{_+_, _≤_};
 ghost use lib.ListN.{length};
 ghost use Rattle.language.specs.Tokens as word;
 ghost use Rattle.reader.specs.Machine.{statement};
 ghost use Rattle.reader.specs.Steps.{statements, Asked, Stepped, BlockStepped};
 ghost use Rattle.reader.specs.Frames.{mostHeld};
-ghost use Rattle.reader.specs.Statements.{Looked, Ended, After, OutputAfter};
+ghost use Rattle.reader.specs.Statements.{Compared, Looked, Ended, After, OutputAfter};
 
 // 2.8: Channel 0 is the settled one, which the stations read, and channel 1 the provisional one.
 const SETTLED: u32 = 0;
@@ -35,17 +39,38 @@ pub enum Found {
     Faulty { start: usize, end: usize },
 }
 
+// Whether the word that starts at a place is this key. Its end is not looked for: the key stands there, and the word does not go on.
+fn is_word(text: &[u8], at: usize, key: &[u8]) -> bool
+    requires { ⌜ at ≤ length (now text) ⌝ }
+    ensures { λ r. ⌜
+        Compared (now (text .entry)) at (now (key .entry)) r × (r ≡ true → at + length (now (key .entry)) ≤ length (now (text .entry))) ⌝ }
+{
+    if text.len() - at < key.len() {
+        return false;
+    }
+    let next = at + key.len();
+    if !is_key(word_part(text, at, next), key) {
+        return false;
+    }
+    if is_joined(key, 0) {
+        return !is_joined(text, next);
+    }
+    true
+}
+
 // Whether the word at a place is this key.
 pub fn expect(text: &[u8], from: usize, key: &[u8]) -> Found
     ensures { λ r. ⌜ Looked (now (text .entry)) from (now (key .entry)) r ⌝ }
 {
-    let w = word_at(text, from);
-    let start = w.start;
-    let end = w.end;
-    if is_key(word_part(text, start, end), key) {
-        return Found::Next(end);
+    let start = start_at(text, from);
+    if is_word(text, start, key) {
+        return Found::Next(start + key.len());
     }
-    Found::Faulty { start, end }
+    let w = word_at(text, start);
+    Found::Faulty {
+        start: w.start,
+        end: w.end,
+    }
 }
 
 // Reads this word after what a step has read.

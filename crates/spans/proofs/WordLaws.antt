@@ -4,11 +4,11 @@ use Prim.Native.Nat.{ℕ, zero, suc, _+_, _-_, _≤_, _<_, min}
 use native.Mathlib.Omega.{arith}
 use mathlib.Core.Bool.{Bool, true, false, _&&_, _||_}
 use mathlib.Core.List.{List, [], _∷_}
-use mathlib.Core.Path.{_≡_, refl, sym, ap, ap₂, _∙_}
+use mathlib.Core.Path.{_≡_, refl, sym, ap, ap₂, subst, _∙_}
 use lib.Dec.{leb, ltb, eqb}
 use lib.ListN.{length, getD, take, drop, drop-of-length-le, length-take, length-drop}
 use lib.Seq.{take-all, take-nil}
-use borrow.Author.Tests.{leb-true, leb-false, le-leb, lt-leb, ltb-true, ltb-false, eq-eqb, ne-eqb}
+use borrow.Author.Tests.{leb-true, leb-false, le-leb, lt-leb, ltb-true, ltb-false, eqb-true, eqb-false, eq-eqb, ne-eqb}
 use Rattle.lines.specs.Numbers.{isDigit}
 use Rattle.lines.proofs.NumberLaws.{drop-next}
 use Rattle.language.specs.Words.{isBlank, isLetter, isJoining, word, joins, grown, onByte, wordsFrom}
@@ -17,7 +17,7 @@ use Rattle.language.specs.declared.Part.{Part}
 use Rattle.language.specs.Readings.{partAt, handed}
 use Rattle.language.proofs.Faults.{joining-blank}
 use Rattle.spans.specs.declared.Span.{Span}
-use Rattle.spans.specs.Cut.{from, part, Cut, JoinedTo}
+use Rattle.spans.specs.Cut.{from, part, Begun, Cut, JoinedTo}
 
 -- ---- blanks, letters and digits
 
@@ -60,7 +60,7 @@ joining-under byte h = simp (lt-leb 65 byte (omega arith), lt-leb 97 byte (omega
 
 -- ---- a part of a text
 
-part-next : (text : List ℕ) (start end : ℕ) → start < end → start < length text
+pub part-next : (text : List ℕ) (start end : ℕ) → start < end → start < length text
     → part text start end ≡ getD text start 0 ∷ part text (start + 1) end
 part-next text start end h k =
     let size : end - start ≡ suc (end - (start + 1)) = omega arith in
@@ -141,11 +141,11 @@ words-one text at h blank joined =
     ∙ ap₂ (λ (a b : Bool). onByte a b at (getD text at 0) (from text (at + 1))) blank joined
     ∙ ap (λ (bytes : List ℕ). word at bytes ∷ from text (at + 1)) (sym (part-one text at h))
 
-joins-at : (text : List ℕ) (at : ℕ) → at < length text → joins (drop at text) ≡ isJoining (getD text at 0)
+pub joins-at : (text : List ℕ) (at : ℕ) → at < length text → joins (drop at text) ≡ isJoining (getD text at 0)
 unfolding joins
 joins-at text at h = ap joins (drop-next text at h)
 
-joins-not : (text : List ℕ) (at : ℕ) → (at < length text → isJoining (getD text at 0) ≡ false) → joins (drop at text) ≡ false
+pub joins-not : (text : List ℕ) (at : ℕ) → (at < length text → isJoining (getD text at 0) ≡ false) → joins (drop at text) ≡ false
 unfolding joins
 joins-not text at h = by (ltb at (length text)) refl
   where
@@ -218,6 +218,16 @@ cut-earlier text at i s h e c =
       last = λ k. (c .last k .0, sym e ∙ c .last k .1);
     }
 
+pub cut-begun : {text : List ℕ} {at start : ℕ} {s : Span} → Begun text at start → Cut text start s → Cut text at s
+cut-begun b c =
+    record {
+      forward = c .forward;
+      inside = c .inside;
+      later = λ k. let on = c .later k in let inside = c .inside in omega (arith, b .later (omega arith));
+      first = λ k. sym (b .same) ∙ c .first k;
+      last = λ k. (c .last k .0, sym (b .same) ∙ c .last k .1);
+    }
+
 -- the part of the text that is handed back, where the first word from a place on is at fault
 pub cut-part : {text : List ℕ} {at : ℕ} {s : Span} → Cut text at s
     → partAt text (from text at) ≡ record { start = s .start; size = s .end - s .start }
@@ -243,6 +253,62 @@ cut-once {text} {at} {s} {t} c d =
     let sizes : s .end - s .start ≡ t .end - t .start = ap (λ (p : Part). p .size) parts in
     let ends : s .end ≡ t .end = omega (arith, c .forward, d .forward) in
     ap₂ span starts ends
+
+-- ---- the word that starts at a place
+
+-- letters and digits stand from every place to some place
+joined-end : (n : ℕ) (text : List ℕ) (at : ℕ) → at + n ≡ length text → (end : ℕ) × JoinedTo text at end
+joined-end zero text at e =
+    (at, record { later = omega arith; inside = omega arith; run = λ i h k. absurd (omega arith); over = λ h. absurd (omega arith) })
+joined-end (suc n) text at e = by (isJoining (getD text at 0)) refl (joined-end n text (at + 1) (omega arith))
+  where
+    by : (b : Bool) → isJoining (getD text at 0) ≡ b → (end : ℕ) × JoinedTo text (at + 1) end → (end : ℕ) × JoinedTo text at end
+    by false f more =
+        (at, record { later = omega arith; inside = omega arith; run = λ i h k. absurd (omega arith); over = λ h. f })
+    by true f (end, j) = (
+      end,
+      record { later = omega (arith, j .later); inside = j .inside; run = λ i h k. here i h k (eqb i at) refl; over = j .over },
+    )
+      where
+        here : (i : ℕ) → i < end → at ≤ i → (b : Bool) → eqb i at ≡ b → isJoining (getD text i 0) ≡ true
+        here i h k true q = ap (λ (j : ℕ). isJoining (getD text j 0)) (eqb-true i at q) ∙ f
+        here i h k false q = let ne = eqb-false i at q in j .run i h (omega arith)
+
+module _ {text : List ℕ} {at : ℕ} where
+  -- where the first byte is a letter or a digit, the word goes on as long as such stand there
+  pub cut-joined : {s : Span} → at < length text → isJoining (getD text at 0) ≡ true → Cut text at s → (s .start ≡ at) × JoinedTo text (at + 1) (s .end)
+  cut-joined {s} h joining c =
+      let found = joined-end (length text - (at + 1)) text (at + 1) (omega arith) in
+      let is : s ≡ span at (found .0) = cut-once c (cut-run text at (found .0) joining (found .1)) in
+      (ap (λ (w : Span). w .start) is, subst (λ (w : Span). JoinedTo text (at + 1) (w .end)) (sym is) (found .1))
+
+  -- there is a word, and it starts there
+  pub cut-some : at < length text → isBlank (getD text at 0) ≡ false → (end : ℕ) × Cut text at (span at end)
+  cut-some h blank = by (isJoining (getD text at 0)) refl
+    where
+      by : (b : Bool) → isJoining (getD text at 0) ≡ b → (end : ℕ) × Cut text at (span at end)
+      by true joining =
+          let found = joined-end (length text - (at + 1)) text (at + 1) (omega arith) in
+          (found .0, cut-run text at (found .0) joining (found .1))
+      by false joining = (at + 1, cut-one text at h blank joining)
+
+-- no second place is the first where no blank stands
+pub begun-once : {text : List ℕ} {at start other : ℕ} → Begun text at start → Begun text at other → start ≡ other
+begun-once {text} {at} {start} {other} b c = sym (place b (ltb start (length text)) refl) ∙ place c (ltb other (length text)) refl
+  where
+    ahead : {i : ℕ} → Begun text at i → i < length text → partAt text (from text at) .start ≡ i
+    ahead {i} d h =
+        let found = cut-some h (d .shown h) in
+        ap (λ (p : Part). p .start) (cut-part (cut-begun d (found .1)))
+
+    past : {i : ℕ} → Begun text at i → length text ≤ i → partAt text (from text at) .start ≡ i
+    past {i} d h =
+        let ends : length text ≡ i = omega (arith, d .inside) in
+        ap (λ (p : Part). p .start) (cut-part (cut-begun d (cut-end text i h))) ∙ ends
+
+    place : {i : ℕ} → Begun text at i → (b : Bool) → ltb i (length text) ≡ b → partAt text (from text at) .start ≡ i
+    place {i} d true h = ahead d (ltb-true i (length text) h)
+    place {i} d false h = past d (ltb-false i (length text) h)
 
 -- ---- a key and a word, byte by byte
 

@@ -4,7 +4,7 @@ use mathlib.Core.List.{List, [], _∷_}
 use mathlib.Core.Path.{_≡_}
 use mathlib.Core.Bool.{true, false}
 use lib.ListN.{length, getD, take, drop}
-use Rattle.language.specs.Words.{isJoining, Word, word, wordsFrom}
+use Rattle.language.specs.Words.{isBlank, isJoining, Word, word, wordsFrom}
 use Rattle.spans.specs.declared.Span.{Span}
 
 -- the words of a text from a place on
@@ -14,6 +14,13 @@ from text at = wordsFrom at (drop at text)
 -- the bytes of a text from a place to another
 abbrev pub part : List ℕ → ℕ → ℕ → List ℕ
 part text start end = take (end - start) (drop start text)
+
+-- The first place from a place on where no blank stands, or the text's end.
+pub record Begun (text : List ℕ) (at start : ℕ) : Type 0 where
+  pub inside : start ≤ length text
+  pub later : start < length text → at ≤ start
+  pub same : from text start ≡ from text at
+  pub shown : start < length text → isBlank (getD text start 0) ≡ false
 
 -- The span is the first word's; where there is no word it is empty, at the text's end.
 pub record Cut (text : List ℕ) (at : ℕ) (s : Span) : Type 0 where

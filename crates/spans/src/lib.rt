@@ -3,11 +3,11 @@ use language::Part;
 ghost use mathlib.Core.Bool.{false};
 ghost use mathlib.Core.Path.{_≡_};
 ghost use Prim.Native.Nat.{_≤_, _<_, min};
-ghost use lib.ListN.{length, getD};
-ghost use Rattle.language.specs.Words.{isBlank, isJoining};
+ghost use lib.ListN.{length, getD, drop};
+ghost use Rattle.language.specs.Words.{isBlank, isJoining, joins};
 ghost use Rattle.language.specs.Tokens.{same};
 ghost use Rattle.language.specs.Readings.{handed};
-ghost use Rattle.spans.specs.Cut.{part, Cut, JoinedTo};
+ghost use Rattle.spans.specs.Cut.{part, Begun, Cut, JoinedTo};
 
 // Where a word starts and ends; where there is none, both are the text's end.
 pub struct Span {
@@ -36,6 +36,16 @@ fn is_joining(byte: u8) -> bool
         return byte <= b'Z';
     }
     b'0' <= byte && byte <= b'9'
+}
+
+// Whether a letter or a digit stands at a place.
+pub fn is_joined(text: &[u8], at: usize) -> bool
+    ensures { λ r. ⌜ r ≡ joins (drop at (now (text .entry))) ⌝ }
+{
+    if text.len() <= at {
+        return false;
+    }
+    is_joining(text[at])
 }
 
 // The first place from a place on where neither a letter nor a digit stands.
@@ -70,16 +80,27 @@ fn word_from(text: &[u8], start: usize) -> Span
     }
 }
 
-// The first word from a place on.
-pub fn word_at(text: &[u8], at: usize) -> Span
-    ensures { λ r. ⌜ Cut (now (text .entry)) at r ⌝ }
+// The first place from a place on where no blank stands, or the text's end.
+pub fn start_at(text: &[u8], at: usize) -> usize
+    ensures { λ r. ⌜ Begun (now (text .entry)) at r ⌝ }
 {
     let mut i = at;
     while i < text.len() {
         if !is_blank(text[i]) {
-            return word_from(text, i);
+            return i;
         }
         i += 1;
+    }
+    text.len()
+}
+
+// The first word from a place on.
+pub fn word_at(text: &[u8], at: usize) -> Span
+    ensures { λ r. ⌜ Cut (now (text .entry)) at r ⌝ }
+{
+    let start = start_at(text, at);
+    if start < text.len() {
+        return word_from(text, start);
     }
     Span {
         start: text.len(),

@@ -1,78 +1,23 @@
--- `spans::word_at` meets its contract. The loop's invariant: the words from the place reached on are those from the first
--- place on. Assumes nothing.
-use Prim.Native.Nat.{_-_, _≤_}
-use native.Mathlib.Omega.{arith}
-use mathlib.Core.Path.{_≡_, refl, sym, _∙_}
-use lib.ListN.{length}
+-- `spans::word_at` meets its contract. Assumes nothing.
 use denote.Ref.{now}
 use borrow.Author.Needs.{needs}
-use borrow.Author.Tests.{not-true, not-false}
-use Rattle.spans.specs.Cut.{from}
-use Rattle.spans.proofs.WordLaws.{words-blank, cut-end, cut-earlier}
+use Rattle.spans.proofs.WordLaws.{cut-end, cut-begun}
 use Rattle.spans.proofs.word_at.Statement.{statement}
 use Rattle.spans.proofs.word_at.Tie as tie
 
-abbrev Inv-loop : tie.InvT-loop
-Inv-loop text at i₀ i = (at ≤ i) × (from text i ≡ from text at)
+start-at-requires : tie.Need-start-at-requires
+start-at-requires c κs = search needs
 
-abbrev μ-loop : tie.MeasureT-loop
-μ-loop text at i₀ i = length text - i
+word-from-requires : tie.Need-word-from-requires
+word-from-requires c κs = (search needs, c .before .start-at .ensures .shown (c .if1 .taken))
 
-loop-holds : tie.Need-loop-holds Inv-loop μ-loop
-loop-holds c = (search needs, refl)
+returns : tie.Need-returns
+returns c = cut-begun (c .before .before .start-at .ensures) (c .word-from .ensures)
 
-shared-slice-read-is-blank : tie.Need-shared-slice-read-is-blank Inv-loop μ-loop
-shared-slice-read-is-blank c = search needs
-
-is-blank-requires : tie.Need-is-blank-requires Inv-loop μ-loop
-is-blank-requires c κs = search needs
-
-word-from-requires : tie.Need-word-from-requires Inv-loop μ-loop
-word-from-requires c κs =
-    (search needs, sym (c .before .is-blank .ensures) ∙ not-true (c .before .is-blank .result) (c .if1 .taken))
-
-returns : tie.Need-returns Inv-loop μ-loop
-returns c =
-    let loop = c .before .before .before .before .before in
-    let args = loop .before .before .args in
-    cut-earlier (now (args .text)) (args .at) (loop .loop .i) (c .word-from .result) (loop .loop .inv .0) (loop .loop .inv .1)
-    (c .word-from .ensures)
-
-add-i : tie.Need-add-i Inv-loop μ-loop
-add-i c = search needs
-
-loop-less : tie.Need-loop-less Inv-loop μ-loop
-loop-less c = search needs
-
-loop-again : tie.Need-loop-again Inv-loop μ-loop
-loop-again c =
-    let loop = c .before .before .before .before in
-    let args = loop .before .before .args in (
-      search needs,
-      words-blank (now (args .text)) (loop .loop .i) (omega arith)
-          (sym (c .before .is-blank .ensures) ∙ not-false (c .before .is-blank .result) (c .if1 .left))
-          ∙ loop .loop .inv .1,
-    )
-
-returns-2 : tie.Need-returns-2 Inv-loop μ-loop
+returns-2 : tie.Need-returns-2
 returns-2 c =
-    let loop = c .before in
-    let args = loop .before .before .args in
-    cut-earlier (now (args .text)) (args .at) (loop .loop .i) _ (loop .loop .inv .0) (loop .loop .inv .1)
-    (cut-end (now (args .text)) (loop .loop .i) (c .loop-test .left))
+    let started = c .before in
+    cut-begun (started .start-at .ensures) (cut-end (now (started .before .before .args .text)) (started .start-at .result) (c .if1 .left))
 
 pub word-at-spec : {M : Type 1} → statement M
-word-at-spec =
-    tie.close
-    (tie.spec
-    Inv-loop
-    μ-loop
-    loop-holds
-    shared-slice-read-is-blank
-    is-blank-requires
-    word-from-requires
-    returns
-    add-i
-    loop-less
-    loop-again
-    returns-2)
+word-at-spec = tie.close (tie.spec start-at-requires word-from-requires returns returns-2)
