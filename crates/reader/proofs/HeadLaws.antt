@@ -21,8 +21,8 @@ use Rattle.spans.specs.declared.Span.{Span}
 use Rattle.spans.specs.Cut.{from, part, Cut}
 use Rattle.spans.proofs.WordLaws.{part-length}
 use Rattle.reader.specs.Machine.{tag, Symbol, exactly, name, start, level, onStart, onLevel, run}
-use Rattle.reader.specs.Steps.{Later, Stuck}
-use Rattle.reader.specs.Statements.{Led, Missing}
+use Rattle.reader.specs.Steps.{Missing, Later, Stuck}
+use Rattle.reader.specs.Statements.{Led}
 use Rattle.reader.specs.Heads.{LevelClosed, Leveled, LevelRead, DeclaredAs, DeclarationRead, seenWith, declaredFrom, StandsAt, Declarations}
 use Rattle.reader.specs.declared.head.Level.{Level}
 use Rattle.reader.specs.declared.head.Declared.{Declared}
@@ -54,7 +54,7 @@ level-word {text} {at} {next} {t} l meant is means went led (Level.Over provisio
       on = omega (arith, led .on, closed .on);
       inside = closed .inside;
     }
-level-word l meant is means went led (Level.Faulty first last) closed =
+level-word l meant is means went led (Level.Faulty place) closed =
     stuck-word led went (stuck-more closed (start ∷ []))
 
 pub level-settled : {text : List ℕ} {at next : ℕ} → Led text at token.settled next → (r : Level) → LevelClosed text next false r
@@ -67,18 +67,17 @@ pub level-provisional : {text : List ℕ} {at next : ℕ} → Led text at token.
 unfolding run tag onLevel makesProvisional
 level-provisional = level-word recipe.provisional true refl refl (λ ts others. refl)
 
-pub level-none : {text : List ℕ} {at first last : ℕ} → Missing text at token.semicolon first last → Missing text at token.settled first last
-    → Missing text at token.provisional first last → Stuck text at (level ∷ []) first last
+pub level-none : {text : List ℕ} {at : ℕ} → Missing text at token.semicolon → Missing text at token.settled → Missing text at token.provisional
+    → Stuck text at (level ∷ []) at
 unfolding onLevel
-level-none a b c =
-    stuck-here level refl (λ first later e. rw (a .other first later e, b .other first later e, c .other first later e)) (a .part)
+level-none a b c = stuck-here level refl (λ first later e. rw (a first later e, b first later e, c first later e))
 
 -- ---- declarations
 
 -- a declaration's answer, from that on its level
 abbrev declaredAs : ℕ → ℕ → ℕ → Level → Declared
 declaredAs variable first last (Level.Over provisional next) = Declared.As variable first last provisional next
-declaredAs variable first last (Level.Faulty from-place to-place) = Declared.Faulty from-place to-place
+declaredAs variable first last (Level.Faulty place) = Declared.Faulty place
 
 pub declaration-variable : {text : List ℕ} {at : ℕ} {s : Span} {v : ℕ} → Cut text at s
     → Led text at (token.variable v) (s .end) → (r : Level) → LevelRead text (s .end) r
@@ -99,7 +98,7 @@ declaration-variable {text} {at} {s} {v} c led (Level.Over provisional next) l =
       on = omega (arith, led .on, l .on);
       inside = l .inside;
     }
-declaration-variable c led (Level.Faulty first last) l = stuck-word led (λ ts others. refl) l
+declaration-variable c led (Level.Faulty place) l = stuck-word led (λ ts others. refl) l
 
 -- ---- one declaration more
 
@@ -278,9 +277,9 @@ head-more {text} {s} {next = next} before led d r e =
     let at-next : r .at ≡ next = ap (λ (x : Seen). x .at) e in
     (subst (Declarations text) (sym e) (head-added before led d), omega (arith, led .on, d .on, d .inside))
 
-pub head-faulty : {text : List ℕ} {s : Seen} {mid first last : ℕ} → Declarations text s → Led text (s .at) token.input mid
-    → Stuck text mid (name ∷ level ∷ []) first last → Stuck text 0 (start ∷ []) first last
+pub head-faulty : {text : List ℕ} {s : Seen} {mid place : ℕ} → Declarations text s → Led text (s .at) token.input mid
+    → Stuck text mid (name ∷ level ∷ []) place → Stuck text 0 (start ∷ []) place
 unfolding run tag onStart
-head-faulty {text} {s} {mid} {first} {last} before led faulty =
-    let here : Stuck text (s .at) (start ∷ []) first last = stuck-word led (λ ts others. refl) faulty in
+head-faulty {text} {s} {mid} {place} before led faulty =
+    let here : Stuck text (s .at) (start ∷ []) place = stuck-word led (λ ts others. refl) faulty in
     stuck-past (λ ts. declarationsTokens (before .declarations) ++ ts) (before .is) (before .later) (run-declarations (before .declarations)) here

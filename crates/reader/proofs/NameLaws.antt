@@ -44,7 +44,7 @@ module _ {text bytes : List ℕ} {at : ℕ} {s : Span} {atom : Atom} (c : Cut te
   pub led-name : {v : ℕ} → atom ≡ Atom.Variable v → Led text at (word.variable v) (s .end)
   led-name named = led-token c (atom-is _ (answer named)) (λ e. clash (cc))
 
-  pub lacks-name : {none : Atom} → atom ≡ none → Nameless none → Stuck text at (name ∷ []) (s .start) (s .end)
+  pub lacks-name : {none : Atom} → atom ≡ none → Nameless none → Stuck text at (name ∷ []) at
   lacks-name unnamed nameless =
       stuck-cut c name refl (ap expected (nameless-token _ (λ v named. nameless v (sym (answer unnamed) ∙ named))))
 

@@ -11,13 +11,11 @@ use borrow.Author.Tests.{ltb-true, ltb-false, eq-eqb}
 use Rattle.language.specs.Words.{Word}
 use Rattle.language.specs.Tokens as word
 use Rattle.language.specs.Tokens.{Token, fixed, same, counted, among, tokenOf, tokens}
-use Rattle.language.specs.Readings.{partAt}
 use Rattle.spans.specs.Cut.{from, part, Cut}
 use Rattle.spans.specs.declared.Span.{Span}
-use Rattle.spans.proofs.WordLaws.{cut-part}
 use Rattle.reader.specs.Machine.{tag, isWord, Symbol, exactly, Advance, stop, expected, advance, mayEnd, endsAt, ended, onward, stuck, run}
-use Rattle.reader.specs.Steps.{Later, Stuck}
-use Rattle.reader.specs.Statements.{Spells, Led, Missing}
+use Rattle.reader.specs.Steps.{Later, Missing, Stuck}
+use Rattle.reader.specs.Statements.{Spells, Led}
 use Rattle.reader.proofs.Clash.{clash}
 
 pub later-self : {text : List ℕ} {at : ℕ} → Later text at at
@@ -91,12 +89,9 @@ module _ {text : List ℕ} {at : ℕ} {s : Span} (c : Cut text at s) where
 
   pub missing-key :
       {key bytes : List ℕ} {b : Bool} {t : Token} → bytes ≡ part text (s .start) (s .end) → b ≡ same key bytes → b ≡ false → Spells key t
-      → Missing text at t (s .start) (s .end)
-  missing-key {key} {t = t} is told no′ k =
-      record {
-        other = λ first later e. ap (isWord t) (cut-token first later e) ∙ sym (k .told _) ∙ ap (same key) (sym is) ∙ sym told ∙ no′;
-        part = cut-part c;
-      }
+      → Missing text at t
+  missing-key {key} {t = t} is told no′ k first later e =
+      ap (isWord t) (cut-token first later e) ∙ sym (k .told _) ∙ ap (same key) (sym is) ∙ sym told ∙ no′
 
 -- ---- where no recipe goes on
 
@@ -106,14 +101,12 @@ unfolding run
 run-stops [] symbol others needed stops = ap (λ (b : Bool). endsAt b (ended others)) needed
 run-stops (t ∷ ts) symbol others needed stops = ap (λ (a : Advance). onward a (run ts) others (t ∷ ts)) (stops t ts refl)
 
-module _ {text : List ℕ} {start end : ℕ} where
-  pub stuck-more : {at : ℕ} {symbols : List Symbol} → Stuck text at symbols start end → (later : List Symbol) → Stuck text at (symbols ++ later) start end
+module _ {text : List ℕ} {place : ℕ} where
+  pub stuck-more : {at : ℕ} {symbols : List Symbol} → Stuck text at symbols place → (later : List Symbol) → Stuck text at (symbols ++ later) place
   stuck-more {at} {symbols} s later =
       record {
-        place = s .place;
         stops = λ others. ap (run (tokens (from text at))) (append-assoc symbols later others) ∙ s .stops (later ++ others);
         later = s .later;
-        part = s .part;
       }
 
   -- the words before a place take the place of their symbols
@@ -121,34 +114,32 @@ module _ {text : List ℕ} {start end : ℕ} where
       {at next : ℕ} (words : List Token → List Token) {symbols after : List Symbol}
       → tokens (from text at) ≡ words (tokens (from text next)) → Later text at next
       → ((ts : List Token) (others : List Symbol) → run (words ts) (symbols ++ others) ≡ run ts (after ++ others))
-      → Stuck text next after start end → Stuck text at symbols start end
+      → Stuck text next after place → Stuck text at symbols place
   stuck-past {at} {next} words {symbols} e later runs s =
       record {
-        place = s .place;
         stops = λ others. ap (λ (l : List Token). run l (symbols ++ others)) e ∙ runs (tokens (from text next)) others ∙ s .stops others;
         later = later-on later (s .later);
-        part = s .part;
       }
 
   pub stuck-word :
       {at next : ℕ} {t : Token} {symbols after : List Symbol} → Led text at t next
       → ((ts : List Token) (others : List Symbol) → run (t ∷ ts) (symbols ++ others) ≡ run ts (after ++ others))
-      → Stuck text next after start end → Stuck text at symbols start end
+      → Stuck text next after place → Stuck text at symbols place
   stuck-word {t = t} w runs s = stuck-past (λ ts. t ∷ ts) (w .is) (w .later) runs s
 
+module _ {text : List ℕ} {at : ℕ} where
   -- the word at the place itself does not go on with this symbol
   pub stuck-here :
-      {at : ℕ} (symbol : Symbol) → mayEnd symbol ≡ false
+      (symbol : Symbol) → mayEnd symbol ≡ false
       → ((first : Token) (later : List Token) → tokens (from text at) ≡ first ∷ later → advance symbol first ≡ stop)
-      → partAt text (from text at) ≡ record { start = start; size = end - start } → Stuck text at (symbol ∷ []) start end
-  stuck-here {at} symbol needed stops part =
-      record { place = at; stops = λ others. run-stops (tokens (from text at)) symbol others needed stops; later = later-self; part = part }
+      → Stuck text at (symbol ∷ []) at
+  stuck-here symbol needed stops =
+      record { stops = λ others. run-stops (tokens (from text at)) symbol others needed stops; later = later-self }
 
   -- another word stands where this one is to stand
-  pub lacks-word : {at : ℕ} {t : Token} → Missing text at t start end → Stuck text at (exactly t ∷ []) start end
-  lacks-word {t = t} m = stuck-here (exactly t) refl (λ first later e. ap expected (m .other first later e)) (m .part)
+  pub lacks-word : {t : Token} → Missing text at t → Stuck text at (exactly t ∷ []) at
+  lacks-word {t} m = stuck-here (exactly t) refl (λ first later e. ap expected (m first later e))
 
-pub stuck-cut : {text : List ℕ} {at : ℕ} {s : Span} → Cut text at s → (symbol : Symbol) → mayEnd symbol ≡ false
-    → advance symbol (tokenOf (part text (s .start) (s .end))) ≡ stop → Stuck text at (symbol ∷ []) (s .start) (s .end)
-stuck-cut c symbol needed stops =
-    stuck-here symbol needed (λ first later e. ap (advance symbol) (cut-token c first later e) ∙ stops) (cut-part c)
+  pub stuck-cut : {s : Span} → Cut text at s → (symbol : Symbol) → mayEnd symbol ≡ false
+      → advance symbol (tokenOf (part text (s .start) (s .end))) ≡ stop → Stuck text at (symbol ∷ []) at
+  stuck-cut c symbol needed stops = stuck-here symbol needed (λ first later e. ap (advance symbol) (cut-token c first later e) ∙ stops)

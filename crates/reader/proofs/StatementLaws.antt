@@ -16,8 +16,8 @@ use Rattle.language.specs.Tables.{exprBelow, exprSize, statementBelow, statemen
 use Rattle.spans.specs.Cut.{from, part}
 use Rattle.reader.specs.Machine.{Closer, atElse, atEnd, Symbol, expr, statement, exactly, name, rest, onStatement, closing, onRest, run}
 use Rattle.reader.specs.Rows.{rowPut, rowsPut}
-use Rattle.reader.specs.Steps.{Sort, expressions, statements, blocks, Later, Asked, Read, Stuck, Stepped, Over, BlockStepped}
-use Rattle.reader.specs.Statements.{Spells, Led, Missing, Ended, Outputs, settled, provisional}
+use Rattle.reader.specs.Steps.{Missing, Sort, expressions, statements, blocks, Later, Asked, Read, Stuck, Stepped, Over, BlockStepped}
+use Rattle.reader.specs.Statements.{Spells, Led, Ended, Outputs, settled, provisional}
 use Rattle.reader.specs.declared.expressions.Step.{Step}
 use Rattle.reader.proofs.RunLaws.{joined, run-exactly, run-expr, run-statement, run-block, run-more, run-else, run-if, run-while, run-set, run-name, run-settled, run-provisional}
 use Rattle.reader.proofs.RowLaws.{rowsPut-append, rowsPut-length, exprRows-length, statementRows-length, blockRows-length}
@@ -118,89 +118,85 @@ pub data Closes : Closer → Token → Type 0 where
   with-else : Closes atElse word.else
   with-end : Closes atEnd word.end
 
-module _ {text : List ℕ} {start end : ℕ} where
+module _ {text : List ℕ} {place : ℕ} where
   stuck-read :
       {Tree : Type 0} {sort : Sort Tree} {at count next total : ℕ} {rows left : List ℕ} {symbols after : List Symbol}
       → Read sort text at count rows next total left
       → ((tree : Tree) (ts : List Token) (others : List Symbol) → run (sort .words tree ++ ts) (symbols ++ others) ≡ run ts (after ++ others))
-      → Stuck text next after start end → Stuck text at symbols start end
+      → Stuck text next after place → Stuck text at symbols place
   stuck-read {sort = sort} r runs s = stuck-past (λ ts. sort .words (r .tree) ++ ts) (r .is) (r .later) (runs (r .tree)) s
 
   stuck-expr :
       {at count next total : ℕ} {rows left : List ℕ} (after : List Symbol) → Read expressions text at count rows next total left
-      → Stuck text next after start end → Stuck text at (expr ∷ after) start end
+      → Stuck text next after place → Stuck text at (expr ∷ after) place
   stuck-expr after e s = stuck-read {sort = expressions} e (λ tree ts others. run-expr tree ts (after ++ others)) s
 
   pub stuck-statement :
       {at count next total : ℕ} {rows left : List ℕ} (after : List Symbol) → Read statements text at count rows next total left
-      → Stuck text next after start end → Stuck text at (statement ∷ after) start end
+      → Stuck text next after place → Stuck text at (statement ∷ after) place
   stuck-statement after r s = stuck-read {sort = statements} r (λ tree ts others. run-statement tree ts (after ++ others)) s
 
   stuck-block :
       {at count next total : ℕ} {rows left : List ℕ} (c : Closer) → Read blocks text at count rows next total left
-      → Stuck text next (rest c ∷ []) start end → Stuck text at (statement ∷ rest c ∷ []) start end
+      → Stuck text next (rest c ∷ []) place → Stuck text at (statement ∷ rest c ∷ []) place
   stuck-block c r s = stuck-read {sort = blocks} r (λ tree ts others. run-block tree c ts others) s
 
   pub stuck-exactly :
-      {at next : ℕ} {t : Token} (after : List Symbol) → Led text at t next → Stuck text next after start end → Stuck text at (exactly t ∷ after) start end
+      {at next : ℕ} {t : Token} (after : List Symbol) → Led text at t next → Stuck text next after place → Stuck text at (exactly t ∷ after) place
   stuck-exactly after w s = stuck-word w (λ ts others. run-exactly _ ts (after ++ others)) s
 
   pub stuck-tested :
       {at count next total : ℕ} {rows left : List ℕ} {t : Token} (after : List Symbol) → Read (endedBy t expressions) text at count rows next total left
-      → Stuck text next after start end → Stuck text at (expr ∷ exactly t ∷ after) start end
+      → Stuck text next after place → Stuck text at (expr ∷ exactly t ∷ after) place
   stuck-tested {t = t} after e s = stuck-read {sort = endedBy t expressions} e (λ tree ts others. run-tested tree t ts (after ++ others)) s
 
   pub stuck-output :
-      {at next channel : ℕ} {t : Token} → Outputs t channel → Led text at t next → Stuck text next (expr ∷ []) start end → Stuck text at (statement ∷ []) start end
+      {at next channel : ℕ} {t : Token} → Outputs t channel → Led text at t next → Stuck text next (expr ∷ []) place → Stuck text at (statement ∷ []) place
   stuck-output settled w s = stuck-word w run-settled s
   stuck-output provisional w s = stuck-word w run-provisional s
 
   pub stuck-set :
-      {at next : ℕ} → Led text at word.set next → Stuck text next (name ∷ exactly (word.sign Operator.Equal) ∷ expr ∷ []) start end
-      → Stuck text at (statement ∷ []) start end
+      {at next : ℕ} → Led text at word.set next → Stuck text next (name ∷ exactly (word.sign Operator.Equal) ∷ expr ∷ []) place
+      → Stuck text at (statement ∷ []) place
   stuck-set w s = stuck-word w run-set s
 
   pub stuck-name :
-      {at next v : ℕ} (after : List Symbol) → Led text at (word.variable v) next → Stuck text next after start end → Stuck text at (name ∷ after) start end
+      {at next v : ℕ} (after : List Symbol) → Led text at (word.variable v) next → Stuck text next after place → Stuck text at (name ∷ after) place
   stuck-name {v = v} after w s = stuck-word w (λ ts others. run-name v ts (after ++ others)) s
 
   pub stuck-if :
-      {at next : ℕ} → Led text at word.if next → Stuck text next (expr ∷ exactly word.then ∷ statement ∷ rest atElse ∷ []) start end
-      → Stuck text at (statement ∷ []) start end
+      {at next : ℕ} → Led text at word.if next → Stuck text next (expr ∷ exactly word.then ∷ statement ∷ rest atElse ∷ []) place
+      → Stuck text at (statement ∷ []) place
   stuck-if w s = stuck-word w run-if s
 
   -- a block that is over, and what follows its else
   pub stuck-chosen :
       {at count next total : ℕ} {rows left : List ℕ} → Read (endedBy word.else blocks) text at count rows next total left
-      → Stuck text next (statement ∷ rest atEnd ∷ []) start end → Stuck text at (statement ∷ rest atElse ∷ []) start end
+      → Stuck text next (statement ∷ rest atEnd ∷ []) place → Stuck text at (statement ∷ rest atElse ∷ []) place
   stuck-chosen r s = stuck-read {sort = endedBy word.else blocks} r run-chosen s
 
   pub stuck-while :
-      {at next : ℕ} → Led text at word.while next → Stuck text next (expr ∷ exactly word.doing ∷ statement ∷ rest atEnd ∷ []) start end
-      → Stuck text at (statement ∷ []) start end
+      {at next : ℕ} → Led text at word.while next → Stuck text next (expr ∷ exactly word.doing ∷ statement ∷ rest atEnd ∷ []) place
+      → Stuck text at (statement ∷ []) place
   stuck-while w s = stuck-word w run-while s
 
   pub stuck-semicolon :
-      {at next : ℕ} (c : Closer) → Led text at word.semicolon next → Stuck text next (statement ∷ rest c ∷ []) start end → Stuck text at (rest c ∷ []) start end
+      {at next : ℕ} (c : Closer) → Led text at word.semicolon next → Stuck text next (statement ∷ rest c ∷ []) place → Stuck text at (rest c ∷ []) place
   stuck-semicolon c w s = stuck-word w (run-more c) s
 
-  lacks-closer : {at : ℕ} {c : Closer} {t : Token} → Closes c t → Over text at → Missing text at t start end → Stuck text at (rest c ∷ []) start end
+module _ {text : List ℕ} {at : ℕ} where
+  lacks-closer : {c : Closer} {t : Token} → Closes c t → Over text at → Missing text at t → Stuck text at (rest c ∷ []) at
   unfolding onRest closing
-  lacks-closer with-else over m =
-      stuck-here (rest atElse) refl (λ first later e. rw (over first later e, m .other first later e)) (m .part)
-  lacks-closer with-end over m =
-      stuck-here (rest atEnd) refl (λ first later e. rw (over first later e, m .other first later e)) (m .part)
+  lacks-closer with-else over m = stuck-here (rest atElse) refl (λ first later e. rw (over first later e, m first later e))
+  lacks-closer with-end over m = stuck-here (rest atEnd) refl (λ first later e. rw (over first later e, m first later e))
 
   pub lacks-statement :
-      {at : ℕ} → Missing text at word.skip start end → Missing text at word.set start end → Missing text at word.if start end
-      → Missing text at word.while start end → Missing text at word.settled start end → Missing text at word.provisional start end
-      → Stuck text at (statement ∷ []) start end
+      Missing text at word.skip → Missing text at word.set → Missing text at word.if → Missing text at word.while
+      → Missing text at word.settled → Missing text at word.provisional → Stuck text at (statement ∷ []) at
   unfolding onStatement
   lacks-statement a b c d e f =
       stuck-here statement refl
-      (λ first later is.
-      rw (a .other first later is, b .other first later is, c .other first later is, d .other first later is, e .other first later is, f .other first later is))
-      (a .part)
+      (λ first later is. rw (a first later is, b first later is, c first later is, d first later is, e first later is, f first later is))
 
 -- ---- a statement from its parts
 
@@ -324,8 +320,10 @@ module _ {text rows : List ℕ} {at count : ℕ} (a : Asked text at count rows) 
   test-then :
       (step r : Step) (left : List ℕ) → Stepped expressions (expr ∷ []) text at count rows step left → Ended text key step r
       → Stepped (endedBy t expressions) (expr ∷ exactly t ∷ []) text at count rows r left
-  test-then (Step.Faulty start end) r left s e = rw e (stuck-more (s .0) (exactly t ∷ []), s .1)
-  test-then (Step.Next next total) (Step.Faulty start end) left s e = (stuck-expr (exactly t ∷ []) s (lacks-word (e t k)), asked-on a s .long)
+  test-then (Step.Faulty place) r left s e = rw e (stuck-more (s .0) (exactly t ∷ []), s .1)
+  test-then (Step.Next next total) (Step.Faulty place) left s e =
+      let w = e t k in
+      rw (w .0) (stuck-expr (exactly t ∷ []) s (lacks-word (w .1)), asked-on a s .long)
   test-then (Step.Next mid some) (Step.Next next total) left s e =
       let w = e t k in
       rw (w .0) (ended-read {sort = expressions} exprRows-length s (w .1))
@@ -333,9 +331,10 @@ module _ {text rows : List ℕ} {at count : ℕ} (a : Asked text at count rows) 
   block-then :
       {c : Closer} → Closes c t → (step r : Step) (left : List ℕ) → BlockStepped text at count rows step left → Ended text key step r
       → Stepped (endedBy t blocks) (statement ∷ rest c ∷ []) text at count rows r left
-  block-then {c} closes (Step.Faulty start end) r left s e = rw e (s .0 c, s .1)
-  block-then {c} closes (Step.Next next total) (Step.Faulty start end) left s e =
-      (stuck-block c (s .0) (lacks-closer closes (s .1) (e t k)), asked-on a (s .0) .long)
+  block-then {c} closes (Step.Faulty place) r left s e = rw e (s .0 c, s .1)
+  block-then {c} closes (Step.Next next total) (Step.Faulty place) left s e =
+      let w = e t k in
+      rw (w .0) (stuck-block c (s .0) (lacks-closer closes (s .1) (w .1)), asked-on a (s .0) .long)
   block-then closes (Step.Next mid some) (Step.Next next total) left s e =
       let w = e t k in
       rw (w .0) (ended-read {sort = blocks} blockRows-length (s .0) (w .1))

@@ -15,14 +15,14 @@ use Rattle.language.specs.Tokens as word
 use Rattle.language.specs.Tokens.{Token, tokens}
 use Rattle.language.specs.Recipes.{Recipe, declarationsTokens, blockTokens}
 use Rattle.language.specs.Tables.{blockSize, blockRows, tableOf, marksOf}
-use Rattle.language.specs.Readings.{Is, partAt, refused, Reads, long, faulty, read}
+use Rattle.language.specs.Readings.{Is, refused, Reads, long, faulty, read}
 use Rattle.spans.specs.declared.Span.{Span}
 use Rattle.spans.specs.Cut.{from, Cut}
 use Rattle.spans.proofs.WordLaws.{cut-part}
 use Rattle.reader.specs.Machine.{isWord, atFinish, statement, rest, start, name, level, Advance, stop, go, also, onStatement, closing, onRest, onStart, stuck, onward, run}
 use Rattle.reader.specs.Steps.{blocks, Read, Stuck, Over}
 use Rattle.reader.specs.Heads.{HeadRead}
-use Rattle.reader.specs.Wholes.{turnedAway, answered, Made}
+use Rattle.reader.specs.Wholes.{turnedAway, blamed, answered, Made}
 use Rattle.reader.specs.declared.head.Seen.{Seen}
 use Rattle.reader.specs.declared.head.Head.{Head}
 use Rattle.reader.proofs.RunLaws.{run-declarations, run-block}
@@ -38,17 +38,13 @@ reads-long text table h =
 
 -- ---- a faulty word
 
-faulty-at : (text table : List ℕ) (before here : List Word) (first last : ℕ) → length text ≤ mostTextBytes → from text 0 ≡ before ++ here
-    → run (tokens (from text 0)) (start ∷ []) ≡ stuck (tokens here) → partAt text here ≡ record { start = first; size = last - first }
-    → Reads false text table (answered (turnedAway faultyWord 0 first last) table)
-faulty-at text table before here first last h split stops part =
-    subst (λ (p : Part). Reads false text table (answered (refused faultyWord 0 p) table)) part
-    (faulty h here (fault (from text 0) before here split stops))
+faulty-at : (text table : List ℕ) (before : List Word) (place : ℕ) → length text ≤ mostTextBytes → from text 0 ≡ before ++ from text place
+    → run (tokens (from text 0)) (start ∷ []) ≡ stuck (tokens (from text place)) → Reads false text table (answered (blamed text place) table)
+faulty-at text table before place h split stops = faulty h (from text place) (fault (from text 0) before (from text place) split stops)
 
-pub head-faulty : (text table : List ℕ) (first last : ℕ) → length text ≤ mostTextBytes → Stuck text 0 (start ∷ []) first last
-    → Reads false text table (answered (turnedAway faultyWord 0 first last) table)
-head-faulty text table first last h s =
-    faulty-at text table (s .later .between) (from text (s .place)) first last h (s .later .split) (s .stops []) (s .part)
+pub head-faulty : (text table : List ℕ) (place : ℕ) → length text ≤ mostTextBytes → Stuck text 0 (start ∷ []) place
+    → Reads false text table (answered (blamed text place) table)
+head-faulty text table place h s = faulty-at text table (s .later .between) place h (s .later .split) (s .stops [])
 
 -- what begins with no declaration is a block
 undeclared : (t : Token) → isWord word.input t ≡ false → onStart t ≡ also (rest atFinish ∷ []) (onStatement t)
@@ -74,12 +70,11 @@ after-head text s (d, over) =
     ∙ run-declarations (d .declarations) (tokens (from text (s .at))) []
     ∙ started (tokens (from text (s .at))) over
 
-pub body-faulty : (text table : List ℕ) (s : Seen) (first last : ℕ) → length text ≤ mostTextBytes → HeadRead text (Head.Over s)
-    → Stuck text (s .at) (statement ∷ rest atFinish ∷ []) first last
-    → Reads false text table (answered (turnedAway faultyWord 0 first last) table)
-body-faulty text table s first last h head q =
+pub body-faulty : (text table : List ℕ) (s : Seen) (place : ℕ) → length text ≤ mostTextBytes → HeadRead text (Head.Over s)
+    → Stuck text (s .at) (statement ∷ rest atFinish ∷ []) place → Reads false text table (answered (blamed text place) table)
+body-faulty text table s place h head q =
     let all = later-on (head .0 .later) (q .later) in
-    faulty-at text table (all .between) (from text (q .place)) first last h (all .split) (after-head text s head ∙ q .stops []) (q .part)
+    faulty-at text table (all .between) place h (all .split) (after-head text s head ∙ q .stops [])
 
 -- ---- words after the block
 
@@ -103,9 +98,9 @@ pub body-left : (text table rows left : List ℕ) (s : Seen) (next count : ℕ) 
     → Reads false text table (answered (turnedAway faultyWord 0 (w .start) (w .end)) table)
 body-left text table rows left s next count w h head b over cut some =
     let all = later-on (head .0 .later) (b .later) in
-    faulty-at text table (all .between) (from text next) (w .start) (w .end) h (all .split)
-    (after-block text rows left s next count head b ∙ left-over (tokens (from text next)) over _ _ (ap tokens (cut .first some)))
-    (cut-part cut)
+    subst (λ (p : Part). Reads false text table (answered (refused faultyWord 0 p) table)) (cut-part cut)
+    (faulty-at text table (all .between) next h (all .split)
+    (after-block text rows left s next count head b ∙ left-over (tokens (from text next)) over _ _ (ap tokens (cut .first some))))
 
 -- ---- a recipe
 

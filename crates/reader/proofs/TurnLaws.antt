@@ -117,7 +117,7 @@ module _ {text : List ℕ} {s : Inside} {rows held : List ℕ} {span : Span} {by
 
   stuck-at : {at first : ℕ} {before : List ℕ} {frames : List Frame} {whole : Whole} {next : Symbol} {more : List Symbol}
       → Standing text at first before s rows held frames whole → symbolsAfter frames whole ≡ next ∷ more → mayEnd next ≡ false
-      → advance next (tokenOf bytes) ≡ stop → Stuck text at (expr ∷ []) (span .start) (span .end)
+      → advance next (tokenOf bytes) ≡ stop → Stuck text at (expr ∷ []) (s .at)
   stuck-at {frames = frames} {whole = whole} {next = next} {more = more} st e unended unfit =
       stuck-past (λ ts. framesTokens frames ++ (wholeTokens whole ++ ts)) (st .read) (st .later)
       (λ ts others. run-reached frames whole ts others ∙ ap (λ (l : List Symbol). run ts (l ++ others)) e)
@@ -170,7 +170,7 @@ module _ {text : List ℕ} {s : Inside} {rows held : List ℕ} {span : Span} {by
         leaf-put (9, v, 0, 0) (variable v) put refl (λ base. refl) refl (atom-is (tokenOf bytes) atom) (λ e. clash (cc))
 
     pub unbegun : same (40 ∷ []) bytes ≡ false → atomOf (tokenOf bytes) ≡ Atom.Nothing
-        → Turned text s rows held (Turn.Faulty (span .start) (span .end)) rows held
+        → Turned text s rows held Turn.Faulty rows held
     unbegun key atom = (
       ready .rows-long,
       ready .held-long,
@@ -236,7 +236,7 @@ module _ {text : List ℕ} {s : Inside} {rows held : List ℕ} {span : Span} {by
               ),
         )
 
-    pub unsigned : getD held (last % mostHeld) 0 ≡ 0 → signNumber (tokenOf bytes) ≡ 6 → Turned text s rows held (Turn.Faulty (span .start) (span .end)) rows held
+    pub unsigned : getD held (last % mostHeld) 0 ≡ 0 → signNumber (tokenOf bytes) ≡ 6 → Turned text s rows held Turn.Faulty rows held
     unsigned empty none = (
       ready .rows-long,
       ready .held-long,
@@ -262,7 +262,7 @@ module _ {text : List ℕ} {s : Inside} {rows held : List ℕ} {span : Span} {by
               ),
         )
 
-    pub unclosed : (getD held (last % mostHeld) 0 ≡ 0 → ⊥) → same (41 ∷ []) bytes ≡ false → Turned text s rows held (Turn.Faulty (span .start) (span .end)) rows held
+    pub unclosed : (getD held (last % mostHeld) 0 ≡ 0 → ⊥) → same (41 ∷ []) bytes ≡ false → Turned text s rows held Turn.Faulty rows held
     unclosed full key = (
       ready .rows-long,
       ready .held-long,
@@ -315,10 +315,10 @@ module _ (text : List ℕ) (s : Inside) (rows held : List ℕ) (turn : Turn) (le
     pub went-on : (s′ : Inside) → turn ≡ Turn.Went s′ → Ready text s′ left held′ × Reached text at first before s′ left held′
     went-on s′ e = let went = told (Turn.Went s′) e in (went .1, went .2 at first before reached)
 
-    pub went-wrong : (start end : ℕ) → turn ≡ Turn.Faulty start end
-        → (Stuck text at (expr ∷ []) start end × (length left ≡ tableWords)) × (length held′ ≡ mostHeld)
-    went-wrong start end e =
-        let fault = told (Turn.Faulty start end) e in
+    pub went-wrong : turn ≡ Turn.Faulty
+        → (Stuck text at (expr ∷ []) (s .at) × (length left ≡ tableWords)) × (length held′ ≡ mostHeld)
+    went-wrong e =
+        let fault = told Turn.Faulty e in
         ((fault .2 at first before reached, fault .0), fault .1)
 
     pub went-over : Ready text s rows held → turn ≡ Turn.Over

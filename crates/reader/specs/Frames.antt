@@ -121,6 +121,6 @@ Turned text s rows held (Turn.Went s′) left held′ =
     (s .at < s′ .at) × Ready text s′ left held′
     × ((at first : ℕ) (before : List ℕ) → Reached text at first before s rows held → Reached text at first before s′ left held′)
 Turned text s rows held Turn.Over left held′ = (s .whole ≡ true) × (s .depth ≡ 0) × (left ≡ rows) × (held′ ≡ held)
-Turned text s rows held (Turn.Faulty start end) left held′ =
+Turned text s rows held Turn.Faulty left held′ =
     (length left ≡ tableWords) × (length held′ ≡ mostHeld)
-    × ((at first : ℕ) (before : List ℕ) → Reached text at first before s rows held → Stuck text at (expr ∷ []) start end)
+    × ((at first : ℕ) (before : List ℕ) → Reached text at first before s rows held → Stuck text at (expr ∷ []) (s .at))

@@ -16,7 +16,7 @@ use Rattle.language.specs.Tables.{makesProvisional, marksFrom}
 use Rattle.language.specs.Readings.{repeated}
 use Rattle.spans.specs.Cut.{from, part}
 use Rattle.reader.specs.Machine.{isWord, exactly, name, start, level}
-use Rattle.reader.specs.Steps.{Later, Stuck}
+use Rattle.reader.specs.Steps.{Later, Missing, Stuck}
 use Rattle.reader.specs.Statements.{Led}
 use Rattle.reader.specs.declared.head.Level.{Level}
 use Rattle.reader.specs.declared.head.Declared.{Declared}
@@ -27,7 +27,7 @@ use Rattle.reader.specs.declared.head.Head.{Head}
 abbrev pub LevelClosed : List ℕ → ℕ → Bool → Level → Type 0
 LevelClosed text at meant (Level.Over provisional next) =
     (provisional ≡ meant) × Led text at token.semicolon next
-LevelClosed text at meant (Level.Faulty first last) = Stuck text at (exactly token.semicolon ∷ []) first last
+LevelClosed text at meant (Level.Faulty place) = Stuck text at (exactly token.semicolon ∷ []) place
 
 -- A declaration after its variable, where a plain one is settled.
 pub record Leveled (text : List ℕ) (at : ℕ) (provisional : Bool) (next : ℕ) : Type 0 where
@@ -40,7 +40,7 @@ pub record Leveled (text : List ℕ) (at : ℕ) (provisional : Bool) (next : ℕ
 
 abbrev pub LevelRead : List ℕ → ℕ → Level → Type 0
 LevelRead text at (Level.Over provisional next) = Leveled text at provisional next
-LevelRead text at (Level.Faulty first last) = Stuck text at (level ∷ []) first last
+LevelRead text at (Level.Faulty place) = Stuck text at (level ∷ []) place
 
 -- A declaration after its first word: its variable's word is the first there.
 pub record DeclaredAs (text : List ℕ) (at variable first last : ℕ) (provisional : Bool) (next : ℕ) : Type 0 where
@@ -58,7 +58,7 @@ pub record DeclaredAs (text : List ℕ) (at variable first last : ℕ) (provisio
 
 abbrev pub DeclarationRead : List ℕ → ℕ → Declared → Type 0
 DeclarationRead text at (Declared.As variable first last provisional next) = DeclaredAs text at variable first last provisional next
-DeclarationRead text at (Declared.Faulty first last) = Stuck text at (name ∷ level ∷ []) first last
+DeclarationRead text at (Declared.Faulty place) = Stuck text at (name ∷ level ∷ []) place
 
 -- the declarations so far, and one more
 abbrev pub seenWith : Seen → ℕ → ℕ → ℕ → Bool → ℕ → Seen
@@ -93,5 +93,5 @@ pub record Declarations (text : List ℕ) (s : Seen) : Type 0 where
 -- the declarations are over: no further one follows
 abbrev pub HeadRead : List ℕ → Head → Type 0
 HeadRead text (Head.Over s) =
-    Declarations text s × ((t : Token) (ts : List Token) → tokens (from text (s .at)) ≡ t ∷ ts → isWord token.input t ≡ false)
-HeadRead text (Head.Faulty first last) = Stuck text 0 (start ∷ []) first last
+    Declarations text s × Missing text (s .at) token.input
+HeadRead text (Head.Faulty place) = Stuck text 0 (start ∷ []) place

@@ -7,11 +7,10 @@ use lib.ListN.{length, getD}
 use Rattle.language.specs.Words.{isBlank, isJoining}
 use Rattle.language.specs.Tokens as word
 use Rattle.language.specs.Tokens.{Token, same, tokenOf, tokens}
-use Rattle.language.specs.Readings.{partAt}
 use Rattle.spans.specs.Cut.{from, part, Cut}
 use Rattle.spans.specs.declared.Span.{Span}
 use Rattle.reader.specs.Machine.{isWord, statement}
-use Rattle.reader.specs.Steps.{statements, Later, Stepped}
+use Rattle.reader.specs.Steps.{statements, Later, Missing, Stepped}
 use Rattle.reader.specs.declared.expressions.Step.{Step}
 use Rattle.reader.specs.declared.statements.Found.{Found}
 
@@ -45,14 +44,9 @@ pub record Led (text : List ℕ) (at : ℕ) (t : Token) (next : ℕ) : Type 0 wh
   pub on : at < next
   pub inside : next ≤ length text
 
--- Another word stands at a place, or none, and this is its span.
-pub record Missing (text : List ℕ) (at : ℕ) (t : Token) (start end : ℕ) : Type 0 where
-  pub other : (first : Token) (later : List Token) → tokens (from text at) ≡ first ∷ later → isWord t first ≡ false
-  pub part : partAt text (from text at) ≡ record { start = start; size = end - start }
-
 abbrev pub Expected : List ℕ → ℕ → Token → Found → Type 0
 Expected text at t (Found.Next next) = Led text at t next
-Expected text at t (Found.Faulty start end) = Missing text at t start end
+Expected text at t Found.Missing = Missing text at t
 
 -- what is said of the word at a place, whichever word the key is
 abbrev pub Looked : List ℕ → ℕ → List ℕ → Found → Type 0
@@ -61,11 +55,11 @@ Looked text at key r = (t : Token) → Spells key t → Expected text at t r
 -- what reading a word after what a step has read makes of the step
 abbrev pub EndedAt : List ℕ → ℕ → ℕ → Token → Step → Type 0
 EndedAt text at count t (Step.Next next total) = (total ≡ count) × Led text at t next
-EndedAt text at count t (Step.Faulty start end) = Missing text at t start end
+EndedAt text at count t (Step.Faulty place) = (place ≡ at) × Missing text at t
 
 abbrev pub Ended : List ℕ → List ℕ → Step → Step → Type 0
 Ended text key (Step.Next at count) r = (t : Token) → Spells key t → EndedAt text at count t r
-Ended text key (Step.Faulty start end) r = r ≡ Step.Faulty start end
+Ended text key (Step.Faulty place) r = r ≡ Step.Faulty place
 
 -- what a step says of a statement after its first word: the statement begins wherever that word leads here
 abbrev pub After : Token → List ℕ → ℕ → ℕ → List ℕ → Step → List ℕ → Type 0

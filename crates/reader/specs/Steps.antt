@@ -12,7 +12,6 @@ use Rattle.language.specs.Tokens as word
 use Rattle.language.specs.Tokens.{Token, tokens}
 use Rattle.language.specs.Recipes.{Statement, Block, exprTokens, statementTokens, blockTokens}
 use Rattle.language.specs.Tables.{exprSize, statementSize, blockSize, exprRows, statementRows, blockRows}
-use Rattle.language.specs.Readings.{partAt}
 use Rattle.spans.specs.Cut.{from}
 use Rattle.reader.specs.Machine.{isWord, Closer, Symbol, statement, rest, stuck, run}
 use Rattle.rules.specs.Limits.{tableWords}
@@ -56,24 +55,25 @@ pub record Read {Tree : Type 0} (sort : Sort Tree) (text : List ℕ) (at count :
   pub inside : next ≤ length text
   pub few : total + at ≤ count + next
 
--- No recipe goes on with the word at a span: whatever is still to come after these symbols, the words are stuck at a place, and the
--- span is that of the first word there.
-pub record Stuck (text : List ℕ) (at : ℕ) (symbols : List Symbol) (start end : ℕ) : Type 0 where
-  pub place : ℕ
+-- No recipe goes on with the first word from a place on, whatever is still to come after these symbols.
+pub record Stuck (text : List ℕ) (at : ℕ) (symbols : List Symbol) (place : ℕ) : Type 0 where
   pub stops : (others : List Symbol) → run (tokens (from text at)) (symbols ++ others) ≡ stuck (tokens (from text place))
   pub later : Later text at place
-  pub part : partAt text (from text place) ≡ record { start = start; size = end - start }
 
 -- what a step says of an expression or a statement, and the rows afterwards
 abbrev pub Stepped : {Tree : Type 0} → Sort Tree → List Symbol → List ℕ → ℕ → ℕ → List ℕ → Step → List ℕ → Type 0
 Stepped sort symbols text at count rows (Step.Next next total) left = Read sort text at count rows next total left
-Stepped sort symbols text at count rows (Step.Faulty start end) left = Stuck text at symbols start end × (length left ≡ tableWords)
+Stepped sort symbols text at count rows (Step.Faulty place) left = Stuck text at symbols place × (length left ≡ tableWords)
+
+-- Another word than this stands at a place, or none.
+abbrev pub Missing : List ℕ → ℕ → Token → Type 0
+Missing text at t = (first : Token) (later : List Token) → tokens (from text at) ≡ first ∷ later → isWord t first ≡ false
 
 -- The block is over: no semicolon follows.
 abbrev pub Over : List ℕ → ℕ → Type 0
-Over text at = (t : Token) (ts : List Token) → tokens (from text at) ≡ t ∷ ts → isWord word.semicolon t ≡ false
+Over text at = Missing text at word.semicolon
 
 abbrev pub BlockStepped : List ℕ → ℕ → ℕ → List ℕ → Step → List ℕ → Type 0
 BlockStepped text at count rows (Step.Next next total) left = Read blocks text at count rows next total left × Over text next
-BlockStepped text at count rows (Step.Faulty start end) left =
-    ((c : Closer) → Stuck text at (statement ∷ rest c ∷ []) start end) × (length left ≡ tableWords)
+BlockStepped text at count rows (Step.Faulty place) left =
+    ((c : Closer) → Stuck text at (statement ∷ rest c ∷ []) place) × (length left ≡ tableWords)

@@ -32,10 +32,10 @@ pub const MOST_HELD: usize = 4096;
 // An entry has room for so many operators beside a row.
 const SIGNS: u32 = 8;
 
-// The place after what was read, and how many rows there are; or the word that is at fault.
+// The place after what was read, and how many rows there are; or the place from which on the first word is at fault.
 pub enum Step {
     Next { at: usize, count: u32 },
-    Faulty { start: usize, end: usize },
+    Faulty(usize),
 }
 
 // How far an expression is: the place, the rows, how many parentheses are open, and whether one of its expressions is whole there.
@@ -46,11 +46,11 @@ pub struct Inside {
     pub whole: bool,
 }
 
-// What a word makes of an expression; or that the expression is over.
+// What a word makes of an expression; or that the expression is over, or the word is at fault.
 enum Turn {
     Went(Inside),
     Over,
-    Faulty { start: usize, end: usize },
+    Faulty,
 }
 
 // The entry of a left side's row and an operator.
@@ -84,7 +84,7 @@ fn begin(text: &[u8], s: Inside, rows: &mut [u32; TABLE_WORDS], held: &mut [u32;
     }
     let atom = atom_of(word);
     match atom {
-        Atom::Nothing => Turn::Faulty { start, end },
+        Atom::Nothing => Turn::Faulty,
         Atom::Constant(value) => {
             put_row(rows, count, CONSTANT, value, 0, 0);
             Turn::Went(Inside {
@@ -125,7 +125,7 @@ fn go_on(text: &[u8], s: Inside, rows: &mut [u32; TABLE_WORDS], held: &mut [u32;
     if entry == 0 {
         let sign = sign_of(word);
         if sign == NO_SIGN {
-            return Turn::Faulty { start, end };
+            return Turn::Faulty;
         }
         held[last % MOST_HELD] = entry_of(count - 1, sign);
         return Turn::Went(Inside {
@@ -136,7 +136,7 @@ fn go_on(text: &[u8], s: Inside, rows: &mut [u32; TABLE_WORDS], held: &mut [u32;
         });
     }
     if !is_key(word, b")") {
-        return Turn::Faulty { start, end };
+        return Turn::Faulty;
     }
     put_row(
         rows,
@@ -198,7 +198,7 @@ pub fn read_expression(
                 at: s.at,
                 count: s.count,
             },
-            Turn::Faulty { start, end } => return Step::Faulty { start, end },
+            Turn::Faulty => return Step::Faulty(s.at),
         }
     }
 }

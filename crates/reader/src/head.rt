@@ -20,7 +20,7 @@ ghost use Rattle.reader.specs.Heads.{LevelClosed, LevelRead, Declaration
 // The end of a declaration after its variable: whether it is provisional, and the place after it.
 enum Level {
     Over { provisional: bool, next: usize },
-    Faulty { start: usize, end: usize },
+    Faulty(usize),
 }
 
 // A declaration after its first word: its variable and where that stands, whether it is provisional, and the place after it.
@@ -32,10 +32,7 @@ enum Declared {
         provisional: bool,
         next: usize,
     },
-    Faulty {
-        start: usize,
-        end: usize,
-    },
+    Faulty(usize),
 }
 
 // The declarations so far: the place after them, the variables that they declare, the marks, and where the first variable stands
@@ -50,7 +47,7 @@ pub struct Seen {
 
 pub enum Head {
     Over(Seen),
-    Faulty { start: usize, end: usize },
+    Faulty(usize),
 }
 
 // Reads the semicolon after a level word.
@@ -60,7 +57,7 @@ fn close_level(text: &[u8], from: usize, provisional: bool) -> Level
     let found = expect(text, from, b";");
     match found {
         Found::Next(next) => Level::Over { provisional, next },
-        Found::Faulty { start, end } => Level::Faulty { start, end },
+        Found::Missing => Level::Faulty(from),
     }
 }
 
@@ -84,7 +81,7 @@ fn read_level(text: &[u8], from: usize) -> Level
     if is_key(word, b"provisional") {
         return close_level(text, end, true);
     }
-    Level::Faulty { start, end }
+    Level::Faulty(from)
 }
 
 // Reads a declaration after its first word.
@@ -96,8 +93,8 @@ fn read_declaration(text: &[u8], from: usize) -> Declared
     let end = w.end;
     let atom = atom_of(word_part(text, start, end));
     match atom {
-        Atom::Nothing => Declared::Faulty { start, end },
-        Atom::Constant(_) => Declared::Faulty { start, end },
+        Atom::Nothing => Declared::Faulty(from),
+        Atom::Constant(_) => Declared::Faulty(from),
         Atom::Variable(variable) => {
             let level = read_level(text, end);
             match level {
@@ -108,7 +105,7 @@ fn read_declaration(text: &[u8], from: usize) -> Declared
                     provisional,
                     next,
                 },
-                Level::Faulty { start, end } => Declared::Faulty { start, end },
+                Level::Faulty(place) => Declared::Faulty(place),
             }
         }
     }
@@ -169,11 +166,11 @@ pub fn read_head(text: &[u8]) -> Head
     loop {
         let found = expect(text, s.at, b"in");
         match found {
-            Found::Faulty { .. } => return Head::Over(s),
+            Found::Missing => return Head::Over(s),
             Found::Next(next) => {
                 let declared = read_declaration(text, next);
                 match declared {
-                    Declared::Faulty { start, end } => return Head::Faulty { start, end },
+                    Declared::Faulty(place) => return Head::Faulty(place),
                     Declared::As {
                         variable,
                         start,

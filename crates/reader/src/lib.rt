@@ -31,7 +31,7 @@ ghost use Rattle.reader.specs.declared.head.Head.{Head};
 ghost use Rattle.reader.specs.Frames.{mostHeld};
 ghost use Rattle.reader.specs.Heads.{HeadRead};
 ghost use Rattle.rules.specs.Limits.{tableWords};
-ghost use Rattle.reader.specs.Wholes.{turnedAway, answered, Made};
+ghost use Rattle.reader.specs.Wholes.{turnedAway, blamed, answered, Made};
 
 const TOO_LONG: u32 = 9;
 
@@ -67,6 +67,14 @@ fn refused(number: u32, at: u32, start: usize, end: usize) -> Said
             size: between(start, end),
         },
     }
+}
+
+// What is said where no recipe goes on with the first word from a place on.
+fn faulty(text: &[u8], place: usize) -> Said
+    ensures { λ r. ⌜ r ≡ blamed (now (text .entry)) place ⌝ }
+{
+    let w = word_at(text, place);
+    refused(FAULTY_WORD, 0, w.start, w.end)
 }
 
 // The answer to a text that is a recipe, from its declarations and its rows.
@@ -119,7 +127,7 @@ fn read_body(
 {
     let block = read_block(text, s.at, 0, rows, held);
     match block {
-        Step::Faulty { start, end } => refused(FAULTY_WORD, 0, start, end),
+        Step::Faulty(place) => faulty(text, place),
         Step::Next { at, count } => {
             let w = word_at(text, at);
             let start = w.start;
@@ -142,7 +150,7 @@ pub fn read_text(text: &[u8], table: &mut [u32]) -> Said
     }
     let head = read_head(text);
     match head {
-        Head::Faulty { start, end } => refused(FAULTY_WORD, 0, start, end),
+        Head::Faulty(place) => faulty(text, place),
         Head::Over(s) => {
             let mut rows = [0; TABLE_WORDS];
             let mut held = [0; MOST_HELD];

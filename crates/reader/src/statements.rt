@@ -33,10 +33,10 @@ const SETTLED: u32 = 0;
 
 const PROVISIONAL: u32 = 1;
 
-// The place after a word; or the span of another word that stands there.
+// The place after a word; or that another word stands there, or none.
 pub enum Found {
     Next(usize),
-    Faulty { start: usize, end: usize },
+    Missing,
 }
 
 // Whether the word that starts at a place is this key. Its end is not looked for: the key stands there, and the word does not go on.
@@ -66,11 +66,7 @@ pub fn expect(text: &[u8], from: usize, key: &[u8]) -> Found
     if is_word(text, start, key) {
         return Found::Next(start + key.len());
     }
-    let w = word_at(text, start);
-    Found::Faulty {
-        start: w.start,
-        end: w.end,
-    }
+    Found::Missing
 }
 
 // Reads this word after what a step has read.
@@ -78,11 +74,11 @@ fn ended(text: &[u8], step: Step, key: &[u8]) -> Step
     ensures { λ r. ⌜ Ended (now (text .entry)) (now (key .entry)) step r ⌝ }
 {
     match step {
-        Step::Faulty { start, end } => Step::Faulty { start, end },
+        Step::Faulty(place) => Step::Faulty(place),
         Step::Next { at, count } => {
             let found = expect(text, at, key);
             match found {
-                Found::Faulty { start, end } => Step::Faulty { start, end },
+                Found::Missing => Step::Faulty(at),
                 Found::Next(next) => Step::Next { at: next, count },
             }
         }
@@ -105,7 +101,7 @@ fn read_output(
 {
     let shown = read_expression(text, from, count, rows, held);
     match shown {
-        Step::Faulty { start, end } => Step::Faulty { start, end },
+        Step::Faulty(place) => Step::Faulty(place),
         Step::Next { at, count: total } => {
             put_row(rows, total, OUTPUT, channel, total - 1, 0);
             Step::Next {
@@ -134,16 +130,16 @@ fn read_set(
     let end = w.end;
     let atom = atom_of(word_part(text, start, end));
     match atom {
-        Atom::Nothing => Step::Faulty { start, end },
-        Atom::Constant(_) => Step::Faulty { start, end },
+        Atom::Nothing => Step::Faulty(from),
+        Atom::Constant(_) => Step::Faulty(from),
         Atom::Variable(variable) => {
             let equal = expect(text, end, b"=");
             match equal {
-                Found::Faulty { start, end } => Step::Faulty { start, end },
+                Found::Missing => Step::Faulty(end),
                 Found::Next(next) => {
                     let assigned = read_expression(text, next, count, rows, held);
                     match assigned {
-                        Step::Faulty { start, end } => Step::Faulty { start, end },
+                        Step::Faulty(place) => Step::Faulty(place),
                         Step::Next { at, count: total } => {
                             put_row(rows, total, ASSIGN, variable, total - 1, 0);
                             Step::Next {
@@ -174,7 +170,7 @@ fn read_if(
     let mut step = read_expression(text, from, count, rows, held);
     step = ended(text, step, b"then");
     match step {
-        Step::Faulty { start, end } => Step::Faulty { start, end },
+        Step::Faulty(place) => Step::Faulty(place),
         Step::Next {
             at: first,
             count: tested,
@@ -182,7 +178,7 @@ fn read_if(
             step = read_block(text, first, tested, rows, held);
             step = ended(text, step, b"else");
             match step {
-                Step::Faulty { start, end } => Step::Faulty { start, end },
+                Step::Faulty(place) => Step::Faulty(place),
                 Step::Next {
                     at: second,
                     count: chosen,
@@ -190,7 +186,7 @@ fn read_if(
                     step = read_block(text, second, chosen, rows, held);
                     step = ended(text, step, b"end");
                     match step {
-                        Step::Faulty { start, end } => Step::Faulty { start, end },
+                        Step::Faulty(place) => Step::Faulty(place),
                         Step::Next { at, count: total } => {
                             put_row(rows, total, IF, tested - 1, chosen - 1, total - 1);
                             Step::Next {
@@ -221,7 +217,7 @@ fn read_while(
     let mut step = read_expression(text, from, count, rows, held);
     step = ended(text, step, b"do");
     match step {
-        Step::Faulty { start, end } => Step::Faulty { start, end },
+        Step::Faulty(place) => Step::Faulty(place),
         Step::Next {
             at: first,
             count: tested,
@@ -229,7 +225,7 @@ fn read_while(
             step = read_block(text, first, tested, rows, held);
             step = ended(text, step, b"end");
             match step {
-                Step::Faulty { start, end } => Step::Faulty { start, end },
+                Step::Faulty(place) => Step::Faulty(place),
                 Step::Next { at, count: total } => {
                     put_row(rows, total, WHILE, tested - 1, total - 1, 0);
                     Step::Next {
@@ -281,7 +277,7 @@ pub fn read_statement(
     if is_key(word, b"provisional") {
         return read_output(text, end, count, PROVISIONAL, rows, held);
     }
-    Step::Faulty { start, end }
+    Step::Faulty(from)
 }
 
 // Reads the block at a place: a statement, and where a semicolon follows a block after it.
@@ -299,21 +295,21 @@ pub fn read_block(
 {
     let mut step = read_statement(text, from, count, rows, held);
     match step {
-        Step::Faulty { start, end } => Step::Faulty { start, end },
+        Step::Faulty(place) => Step::Faulty(place),
         Step::Next {
             at: second,
             count: stated,
         } => {
             let more = expect(text, second, b";");
             match more {
-                Found::Faulty { .. } => Step::Next {
+                Found::Missing => Step::Next {
                     at: second,
                     count: stated,
                 },
                 Found::Next(third) => {
                     step = read_block(text, third, stated, rows, held);
                     match step {
-                        Step::Faulty { start, end } => Step::Faulty { start, end },
+                        Step::Faulty(place) => Step::Faulty(place),
                         Step::Next { at, count: total } => {
                             put_row(rows, total, SEQUENCE, stated - 1, total - 1, 0);
                             Step::Next {

@@ -292,6 +292,17 @@ module _ {text : List ℕ} {at : ℕ} where
           (found .0, cut-run text at (found .0) joining (found .1))
       by false joining = (at + 1, cut-one text at h blank joining)
 
+-- there is a word from every place on, or none
+pub cut-found : {text : List ℕ} {at start : ℕ} → Begun text at start → (s : Span) × Cut text start s
+cut-found {text} {at} {start} b = by (ltb start (length text)) refl
+  where
+    by : (some : Bool) → ltb start (length text) ≡ some → (s : Span) × Cut text start s
+    by true h =
+        let room = ltb-true start (length text) h in
+        let found = cut-some room (b .shown room) in
+        (span start (found .0), found .1)
+    by false h = (span (length text) (length text), cut-end text start (ltb-false start (length text) h))
+
 -- no second place is the first where no blank stands
 pub begun-once : {text : List ℕ} {at start other : ℕ} → Begun text at start → Begun text at other → start ≡ other
 begun-once {text} {at} {start} {other} b c = sym (place b (ltb start (length text)) refl) ∙ place c (ltb other (length text)) refl

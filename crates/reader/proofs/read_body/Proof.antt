@@ -12,8 +12,8 @@ read-block-requires c κs = search needs
 enum-known-block : tie.Need-enum-known-block
 enum-known-block c = search needs
 
-refused-requires : tie.Need-refused-requires
-refused-requires c κs = search needs
+faulty-requires : tie.Need-faulty-requires
+faulty-requires c κs = search needs
 
 enum-known-block-2 : tie.Need-enum-known-block-2
 enum-known-block-2 c = search needs
@@ -21,8 +21,8 @@ enum-known-block-2 c = search needs
 word-at-requires : tie.Need-word-at-requires
 word-at-requires c κs = search needs
 
-refused-requires-2 : tie.Need-refused-requires-2
-refused-requires-2 c κs = search needs
+refused-requires : tie.Need-refused-requires
+refused-requires c κs = search needs
 
 returns : tie.Need-returns
 returns c =
@@ -32,7 +32,7 @@ returns c =
     let start = called .before .before .before .before .before in
     let a = start .args in
     let b = rw (known .block2 .given .1) at (called .read-block .ensures .0) in
-    reads-as (a .text .now) (a .table .now) (c .refused2 .ensures)
+    reads-as (a .text .now) (a .table .now) (c .refused .ensures)
     (body-left (a .text .now) (a .table .now) _ _ (a .s) _ _ (at-word .word-at .result) (start .pre .0) (start .pre .1) (b .0) (b .1) (at-word .word-at .ensures)
     (c .before .if1 .taken))
 
@@ -50,8 +50,8 @@ returns-2 c =
     let start = called .before .before .before .before .before in
     let a = start .args in
     let b = rw (known .block .given .1) at (called .read-block .ensures .0) in
-    reads-as (a .text .now) (a .table .now) (c .refused .ensures)
-    (body-faulty (a .text .now) (a .table .now) (a .s) _ _ (start .pre .0) (start .pre .1) (b .0 atFinish))
+    reads-as (a .text .now) (a .table .now) (c .faulty .ensures)
+    (body-faulty (a .text .now) (a .table .now) (a .s) _ (start .pre .0) (start .pre .1) (b .0 atFinish))
 
 same-length : tie.Need-same-length
 same-length c = search needs
@@ -74,10 +74,10 @@ read-body-spec =
     (tie.spec
     read-block-requires
     enum-known-block
-    refused-requires
+    faulty-requires
     enum-known-block-2
     word-at-requires
-    refused-requires-2
+    refused-requires
     returns
     finish-requires
     returns-2

@@ -19,8 +19,8 @@ read-head-requires c κs = search needs
 enum-known-head : tie.Need-enum-known-head
 enum-known-head c = search needs
 
-refused-requires-2 : tie.Need-refused-requires-2
-refused-requires-2 c κs = search needs
+faulty-requires : tie.Need-faulty-requires
+faulty-requires c κs = search needs
 
 enum-known-head-2 : tie.Need-enum-known-head-2
 enum-known-head-2 c = search needs
@@ -36,8 +36,8 @@ returns-2 c =
     let known = c .before .before in
     let called = known .before .before in
     let a = called .before .before .before .before .args in
-    reads-as (a .text .now) (a .table .now) (c .refused2 .ensures)
-    (head-faulty (a .text .now) (a .table .now) _ _ (called .before .if1 .left) (rw (known .head .given .1) at (called .read-head .ensures)))
+    reads-as (a .text .now) (a .table .now) (c .faulty .ensures)
+    (head-faulty (a .text .now) (a .table .now) _ (called .before .if1 .left) (rw (known .head .given .1) at (called .read-head .ensures)))
 
 same-length : tie.Need-same-length
 same-length c = search needs
@@ -53,7 +53,7 @@ read-text-spec =
     returns
     read-head-requires
     enum-known-head
-    refused-requires-2
+    faulty-requires
     enum-known-head-2
     read-body-requires
     returns-2

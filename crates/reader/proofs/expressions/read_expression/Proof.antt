@@ -58,17 +58,17 @@ returns c =
     (called .read-word .last .1 .1 .1 .0) (called .read-word .ensures)
     (args .from) (args .first) (now (args .rows)) (at .loop .inv .1) (at .loop .inv .0) (c .enum-told .given .1)
 
-enum-known-turn-2 : tie.Need-enum-known-turn-2 Inv-loop μ-loop
-enum-known-turn-2 c = search needs
+enum-told-2 : tie.Need-enum-told-2 Inv-loop μ-loop
+enum-told-2 c = search needs
 
 returns-2 : tie.Need-returns-2 Inv-loop μ-loop
 returns-2 c =
-    let called = c .before .before .before in
+    let called = c .before .before in
     let at = called .before .before .before in
     let args = at .before .before .args in
     went-wrong (now (args .text)) (at .loop .s) (at .loop .rows) (at .loop .held) (called .read-word .result) (called .read-word .last .1 .1 .0)
     (called .read-word .last .1 .1 .1 .0) (called .read-word .ensures)
-    (args .from) (args .first) (now (args .rows)) (at .loop .inv .1) (c .before .turn2 .given .0 .0) (c .before .turn2 .given .0 .1 .0) (c .before .turn2 .given .1)
+    (args .from) (args .first) (now (args .rows)) (at .loop .inv .1) (c .enum-told2 .given .1)
 
 pub read-expression-spec : {M : Type 1} → statement M
 read-expression-spec =
@@ -83,5 +83,5 @@ read-expression-spec =
     loop-again
     enum-told
     returns
-    enum-known-turn-2
+    enum-told-2
     returns-2)

@@ -18,8 +18,8 @@ expect-requires c κs = search needs
 enum-known-found : tie.Need-enum-known-found
 enum-known-found c = search needs
 
-enum-known-found-2 : tie.Need-enum-known-found-2
-enum-known-found-2 c = search needs
+enum-told : tie.Need-enum-told
+enum-told c = search needs
 
 returns : tie.Need-returns
 returns c =
@@ -30,10 +30,10 @@ returns c =
 
 returns-2 : tie.Need-returns-2
 returns-2 c =
-    let at-expect = c .before .before .before in
+    let at-expect = c .before .before in
     let args = at-expect .before .before .before .args in
     let found = at-expect .expect .ensures token.semicolon spells-semicolon in
-    lacks-word (subst (Expected (now (args .text)) (args .from) token.semicolon) (c .before .found2 .given .1) found)
+    lacks-word (subst (Expected (now (args .text)) (args .from) token.semicolon) (c .enum-told .given .1) found)
 
 pub close-level-spec : {M : Type 1} → statement M
 close-level-spec =
@@ -42,6 +42,6 @@ close-level-spec =
     slice-aggregate-expect
     expect-requires
     enum-known-found
-    enum-known-found-2
+    enum-told
     returns
     returns-2)

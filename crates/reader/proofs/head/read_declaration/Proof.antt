@@ -75,7 +75,7 @@ returns-4 c =
     let args = at-word .before .before .args in
     declaration-variable (at-word .word-at .ensures)
     (led-name (at-word .word-at .ensures) (at-atom .before .word-part .ensures) (at-atom .atom-of .ensures) (variable .1))
-    (Level.Faulty (level .0 .0) (level .0 .1 .0)) (subst (LevelRead (now (args .text)) (at-word .word-at .result .end)) (level .1) (at-level .read-level .ensures))
+    (Level.Faulty (level .0 .0)) (subst (LevelRead (now (args .text)) (at-word .word-at .result .end)) (level .1) (at-level .read-level .ensures))
 
 pub read-declaration-spec : {M : Type 1} → statement M
 read-declaration-spec =

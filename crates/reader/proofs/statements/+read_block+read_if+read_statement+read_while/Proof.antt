@@ -11,9 +11,9 @@ use denote.Ref.{now}
 use Rattle.language.specs.Tokens as word
 use Rattle.language.specs.Tokens.{Token, same}
 use Rattle.reader.specs.Machine.{atElse, atEnd, expr, statement, exactly, rest}
-use Rattle.reader.specs.Steps.{expressions, statements, blocks, Asked, Read, Stepped, Over}
+use Rattle.reader.specs.Steps.{Missing, expressions, statements, blocks, Asked, Read, Stepped, Over}
 use Rattle.reader.specs.declared.expressions.Step.{Step}
-use Rattle.reader.specs.Statements.{Spells, Led, Missing, Outputs}
+use Rattle.reader.specs.Statements.{Spells, Led, Outputs}
 use Rattle.reader.proofs.SpellLaws.{spells-skip, spells-set, spells-if, spells-then, spells-else, spells-end, spells-while, spells-doing, spells-settled, spells-provisional, spells-semicolon}
 use Rattle.reader.proofs.PlaceLaws.{led-key, missing-key, stuck-more}
 use Rattle.reader.proofs.StatementLaws.{endedBy, asked-on, asked-after, with-else, with-end, stuck-statement, stuck-tested, stuck-if, stuck-chosen, stuck-while, stuck-semicolon, lacks-statement, test-ended, block-ended, skip-read, if-read, while-read, one-read, more-read}
@@ -250,8 +250,8 @@ read-block-put-row-requires t c κs =
     let here = c .before in
     asked-on (block-asked t (block-later t here)) (block-others t here .0) .long
 
-read-block-add-t29 : (t : ℕ) → read-block-lts.Need-add-t29 (read-block-calls t) (read-block-at t) read-block.Post
-read-block-add-t29 t c =
+read-block-add-t27 : (t : ℕ) → read-block-lts.Need-add-t27 (read-block-calls t) (read-block-at t) read-block.Post
+read-block-add-t27 t c =
     let here = c .before .before in
     let a = asked-on (block-asked t (block-later t here)) (block-others t here .0) in
     omega (arith, a .inside, a .short, a .few)
@@ -268,7 +268,7 @@ read-block-returns-2 t c =
     let after = c .before .before in
     let here = after .before .before in
     let m = rw (c .enum-told .given .1) at (after .expect .ensures word.semicolon spells-semicolon) in
-    ((one-read (block-first t here), m .other), here .before .before .before .read-statement .ensures .1)
+    ((one-read (block-first t here), m), here .before .before .before .read-statement .ensures .1)
 
 read-block-returns-3 : (t : ℕ) → read-block-lts.Need-returns-3 (read-block-calls t) (read-block-at t) read-block.Post
 read-block-returns-3 t c =
@@ -458,8 +458,8 @@ read-if-put-row-requires t c κs =
     let here = c .before in
     asked-on (if-asked-again t (if-branch t (if-last t here))) (if-told t here) .long
 
-read-if-add-t39 : (t : ℕ) → read-if-lts.Need-add-t39 (read-if-calls t) (read-if-at t) read-if.Post
-read-if-add-t39 t c =
+read-if-add-t36 : (t : ℕ) → read-if-lts.Need-add-t36 (read-if-calls t) (read-if-at t) read-if.Post
+read-if-add-t36 t c =
     let here = c .before .before in
     let a = asked-on (if-asked-again t (if-branch t (if-last t here))) (if-told t here) in
     omega (arith, a .inside, a .short, a .few)
@@ -514,7 +514,7 @@ module _ (t : ℕ) (c : read-statement-lts.After-word-part (read-statement-calls
 
   statement-missing :
       {key : List ℕ} {b : Bool} {first : Token} → b ≡ same key (now (c .word-part .result)) → b ≡ false → Spells key first
-      → Missing (now (statement-start .args .text)) (statement-start .args .from) first (c .before .word-at .result .start) (c .before .word-at .result .end)
+      → Missing (now (statement-start .args .text)) (statement-start .args .from) first
   statement-missing = missing-key (c .before .word-at .ensures) (c .word-part .ensures)
 
 read-statement-word-at-requires : (t : ℕ) → read-statement-lts.Need-word-at-requires (read-statement-calls t) (read-statement-at t) read-statement.Post
@@ -785,8 +785,8 @@ read-while-put-row-requires t c κs =
     let here = c .before in
     asked-on (while-asked t (while-trunk t (while-last t here))) (while-told t here) .long
 
-read-while-add-t29 : (t : ℕ) → read-while-lts.Need-add-t29 (read-while-calls t) (read-while-at t) read-while.Post
-read-while-add-t29 t c =
+read-while-add-t27 : (t : ℕ) → read-while-lts.Need-add-t27 (read-while-calls t) (read-while-at t) read-while.Post
+read-while-add-t27 t c =
     let here = c .before .before in
     let a = asked-on (while-asked t (while-trunk t (while-last t here))) (while-told t here) in
     omega (arith, a .inside, a .short, a .few)
@@ -831,7 +831,7 @@ pub +read-block+read-if+read-statement+read-while-spec : {M : Type 1} → cycle.
     (read-block-sub-put-row t)
     (read-block-sub-put-row-2 t)
     (read-block-put-row-requires t)
-    (read-block-add-t29 t)
+    (read-block-add-t27 t)
     (read-block-returns t)
     (read-block-returns-2 t)
     (read-block-returns-3 t)
@@ -858,7 +858,7 @@ pub +read-block+read-if+read-statement+read-while-spec : {M : Type 1} → cycle.
     (read-if-sub-put-row-2 t)
     (read-if-sub-put-row-3 t)
     (read-if-put-row-requires t)
-    (read-if-add-t39 t)
+    (read-if-add-t36 t)
     (read-if-returns t)
     (read-if-returns-2 t)
     (read-if-returns-3 t)
@@ -910,7 +910,7 @@ pub +read-block+read-if+read-statement+read-while-spec : {M : Type 1} → cycle.
     (read-while-sub-put-row t)
     (read-while-sub-put-row-2 t)
     (read-while-put-row-requires t)
-    (read-while-add-t29 t)
+    (read-while-add-t27 t)
     (read-while-returns t)
     (read-while-returns-2 t)
     (read-while-returns-3 t)

@@ -13,11 +13,11 @@ enum-known-step-2 c = search needs
 expect-requires : tie.Need-expect-requires
 expect-requires c κs = search needs
 
+enum-told : tie.Need-enum-told
+enum-told c = search needs
+
 enum-known-found : tie.Need-enum-known-found
 enum-known-found c = search needs
-
-enum-known-found-2 : tie.Need-enum-known-found-2
-enum-known-found-2 c = search needs
 
 returns : tie.Need-returns
 returns c =
@@ -26,17 +26,16 @@ returns c =
 
 returns-2 : tie.Need-returns-2
 returns-2 c =
-    let found = c .before in
-    let after = found .before .before in
+    let after = c .before .before in
     let known = after .before .before .step2 .given .1 in
-    rw known (λ t k. rw (found .found .given .1) at (after .expect .ensures t k))
+    rw known (λ t k. (refl, rw (c .enum-told .given .1) at (after .expect .ensures t k)))
 
 returns-3 : tie.Need-returns-3
 returns-3 c =
     let found = c .before in
     let after = found .before .before in
     let known = after .before .before .step2 .given .1 in
-    rw known (λ t k. (refl, rw (found .found2 .given .1) at (after .expect .ensures t k)))
+    rw known (λ t k. (refl, rw (found .found .given .1) at (after .expect .ensures t k)))
 
 pub ended-spec : {M : Type 1} → statement M
 ended-spec =
@@ -45,8 +44,8 @@ ended-spec =
     enum-known-step
     enum-known-step-2
     expect-requires
+    enum-told
     enum-known-found
-    enum-known-found-2
     returns
     returns-2
     returns-3)

@@ -29,8 +29,8 @@ put-row-requires c κs =
     let e = rw (known .shown2 .given .1) at (called .read-expression .ensures .0) in
     asked-on (start .pre .0) e .long
 
-add-t17 : tie.Need-add-t17
-add-t17 c =
+add-t16 : tie.Need-add-t16
+add-t16 c =
     let known = c .before .before .before in
     let called = known .before .before in
     let start = called .before .before .before .before in
@@ -64,6 +64,6 @@ read-output-spec =
     enum-known-shown-2
     sub-put-row
     put-row-requires
-    add-t17
+    add-t16
     returns
     returns-2)

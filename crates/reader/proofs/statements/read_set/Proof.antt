@@ -40,7 +40,7 @@ unnamed :
     (c : tie.After-atom-of) {none : Atom} → c .atom-of .result ≡ none → Nameless none
     → After word.set (now (c .before .before .before .before .args .text)) (c .before .before .before .before .args .from)
     (c .before .before .before .before .args .count) (now (c .before .before .before .before .args .rows))
-    (Step.Faulty (c .before .before .word-at .result .start) (c .before .before .word-at .result .end))
+    (Step.Faulty (c .before .before .before .before .args .from))
     (now (c .before .before .before .before .args .rows))
     × (length (now (c .before .before .before .before .args .held)) ≡ mostHeld)
 unnamed c is nameless =
@@ -56,15 +56,15 @@ unnamed c is nameless =
 
 -- ---- where the sign is known
 
-module _ (c : tie.After-known-told3) where
+module _ (c : tie.After-known-told2) where
   abbrev named : tie.After-known-told
   named = c .before .before .before .before .before
 
   equal-led :
-      Led (now (start named .args .text)) (cut named .word-at .result .end) (word.sign Operator.Equal) (c .before .equal2 .given .0 .0)
-  equal-led = rw (c .before .equal2 .given .1) at (c .before .before .before .expect .ensures (word.sign Operator.Equal) spells-equal)
+      Led (now (start named .args .text)) (cut named .word-at .result .end) (word.sign Operator.Equal) (c .before .equal .given .0 .0)
+  equal-led = rw (c .before .equal .given .1) at (c .before .before .before .expect .ensures (word.sign Operator.Equal) spells-equal)
 
-  asked : Asked (now (start named .args .text)) (c .before .equal2 .given .0 .0) (start named .args .count) (now (start named .args .rows))
+  asked : Asked (now (start named .args .text)) (c .before .equal .given .0 .0) (start named .args .count) (now (start named .args .rows))
   asked = asked-after (asked-after (start named .pre .0) (variable-led named)) equal-led
 
 word-at-requires : tie.Need-word-at-requires
@@ -91,11 +91,11 @@ slice-aggregate-expect c = search needs
 expect-requires : tie.Need-expect-requires
 expect-requires c κs = search needs
 
+enum-told-3 : tie.Need-enum-told-3
+enum-told-3 c = search needs
+
 enum-known-equal : tie.Need-enum-known-equal
 enum-known-equal c = search needs
-
-enum-known-equal-2 : tie.Need-enum-known-equal-2
-enum-known-equal-2 c = search needs
 
 read-expression-requires : tie.Need-read-expression-requires
 read-expression-requires c κs =
@@ -121,8 +121,8 @@ put-row-requires c κs =
     let e = rw (known .assigned2 .given .1) at (called .read-expression .ensures .0) in
     asked-on (asked (called .before .before .before)) e .long
 
-add-t31 : tie.Need-add-t31
-add-t31 c =
+add-t28 : tie.Need-add-t28
+add-t28 c =
     let known = c .before .before .before in
     let called = known .before .before in
     let e = rw (known .assigned2 .given .1) at (called .read-expression .ensures .0) in
@@ -137,10 +137,9 @@ returns-2 c = unnamed (c .before .before) (c .enum-told2 .given .1) (nameless-co
 
 returns-3 : tie.Need-returns-3
 returns-3 c =
-    let found = c .before in
-    let after = found .before .before in
+    let after = c .before .before in
     let here = after .before .before in
-    let m = rw (found .equal .given .1) at (after .expect .ensures (word.sign Operator.Equal) spells-equal) in (
+    let m = rw (c .enum-told3 .given .1) at (after .expect .ensures (word.sign Operator.Equal) spells-equal) in (
       (λ at w. (
         stuck-set w (stuck-name (exactly (word.sign Operator.Equal) ∷ expr ∷ []) (variable-led here) (stuck-more (lacks-word m) (expr ∷ []))),
         start here .pre .0 .long,
@@ -184,14 +183,14 @@ read-set-spec =
     enum-known-atom
     slice-aggregate-expect
     expect-requires
+    enum-told-3
     enum-known-equal
-    enum-known-equal-2
     read-expression-requires
     enum-known-assigned
     enum-known-assigned-2
     sub-put-row
     put-row-requires
-    add-t31
+    add-t28
     returns
     returns-2
     returns-3
