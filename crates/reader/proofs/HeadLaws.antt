@@ -75,7 +75,7 @@ level-none a b c = stuck-here level refl (λ first later e. rw (a first later e,
 -- ---- declarations
 
 -- a declaration's answer, from that on its level
-abbrev declaredAs : ℕ → ℕ → ℕ → Level → Declared
+abbrev pub declaredAs : ℕ → ℕ → ℕ → Level → Declared
 declaredAs variable first last (Level.Over provisional next) = Declared.As variable first last provisional next
 declaredAs variable first last (Level.Faulty place) = Declared.Faulty place
 

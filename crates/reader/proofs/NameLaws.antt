@@ -2,31 +2,27 @@
 use Prim.Native.Nat.{ℕ, _<_}
 use mathlib.Core.Bool.{Bool, true, false}
 use mathlib.Core.List.{List, [], _∷_}
-use mathlib.Core.Path.{_≡_, refl, sym, ap, subst, _∙_}
+use mathlib.Core.Path.{_≡_, refl, sym, ap, ap₂, subst, _∙_}
 use Rattle.rules.specs.Limits.{width}
 use Rattle.language.specs.Tokens as word
 use Rattle.language.specs.Tokens.{Token, tokenOf}
 use Rattle.language.proofs.KnownWords.{AllKnown, tokens-known}
-use Rattle.spans.specs.Cut.{from, part, Cut}
+use Rattle.spans.specs.Cut.{from, part, Begun, Cut}
 use Rattle.spans.specs.declared.Span.{Span}
+use Rattle.spans.proofs.WordLaws.{cut-begun, cut-found, cut-start}
 use Rattle.reader.specs.Machine.{isVariable, name, expected}
-use Rattle.reader.specs.Atoms.{atomOf}
+use Rattle.reader.specs.Atoms.{Atom, atomOf, AtomIs, VariableAt}
 use Rattle.reader.specs.Steps.{Stuck}
 use Rattle.reader.specs.Statements.{Led}
-use Rattle.reader.specs.declared.atoms.Atom.{Atom}
+use Rattle.reader.specs.Atoms as atom
+use Rattle.reader.specs.declared.atoms.Numeral.{Numeral}
 use Rattle.reader.proofs.Clash.{clash}
 use Rattle.reader.proofs.FaultLaws.{is-variable}
 use Rattle.reader.proofs.AtomLaws.{atom-is}
-use Rattle.reader.proofs.PlaceLaws.{led-token, stuck-cut}
+use Rattle.reader.proofs.PlaceLaws.{led-token, led-some, stuck-cut}
 
-abbrev pub Nameless : Atom → Type 0
-Nameless a = (v : ℕ) → a ≡ Atom.Variable v → ⊥
-
-pub nameless-nothing : Nameless Atom.Nothing
-nameless-nothing v e = clash (cc)
-
-pub nameless-constant : (value : ℕ) → Nameless (Atom.Constant value)
-nameless-constant value v e = clash (cc)
+abbrev Nameless : Atom → Type 0
+Nameless a = (v : ℕ) → a ≡ atom.variable v → ⊥
 
 nameless-token : (t : Token) → Nameless (atomOf t) → isVariable t ≡ false
 unfolding atomOf
@@ -36,17 +32,34 @@ nameless-token t none = by (isVariable t) refl
     by true h = let found = is-variable t h in absurd (none (found .0) (ap atomOf (found .1)))
     by false h = refl
 
-module _ {text bytes : List ℕ} {at : ℕ} {s : Span} {atom : Atom} (c : Cut text at s) (is : bytes ≡ part text (s .start) (s .end))
-    (told : atom ≡ atomOf (tokenOf bytes)) where
-  answer : {other : Atom} → atom ≡ other → atomOf (tokenOf (part text (s .start) (s .end))) ≡ other
-  answer known = ap (λ (l : List ℕ). atomOf (tokenOf l)) (sym is) ∙ sym told ∙ known
+-- the word that starts at a place, from an earlier place on
+module _ {text : List ℕ} {from-place start : ℕ} {name-at : Numeral} (begun : Begun text from-place start) (said : VariableAt text start name-at) where
+  told : (other : Numeral) → name-at ≡ other → (w : Span) → Cut text start w
+      → AtomIs atom.variable (atomOf (tokenOf (part text (w .start) (w .end)))) (w .end) other
+  told other e w c = subst (AtomIs atom.variable (atomOf (tokenOf (part text (w .start) (w .end)))) (w .end)) e (said (begun .inside) (begun .shown) w c)
 
-  pub led-name : {v : ℕ} → atom ≡ Atom.Variable v → Led text at (word.variable v) (s .end)
-  led-name named = led-token c (atom-is _ (answer named)) (λ e. clash (cc))
+  pub led-name : {v next : ℕ} → name-at ≡ Numeral.Is v next → Led text from-place (word.variable v) next
+  led-name {v} {next} e =
+      let found = cut-found begun in
+      let known = told (Numeral.Is v next) e (found .0) (found .1) in
+      subst (Led text from-place (word.variable v)) (sym (known .0))
+      (led-token (cut-begun begun (found .1)) (atom-is _ (known .1)) (λ e. clash (cc)))
 
-  pub lacks-name : {none : Atom} → atom ≡ none → Nameless none → Stuck text at (name ∷ []) at
-  lacks-name unnamed nameless =
-      stuck-cut c name refl (ap expected (nameless-token _ (λ v named. nameless v (sym (answer unnamed) ∙ named))))
+  -- where it stands
+  pub cut-name : {v next : ℕ} → name-at ≡ Numeral.Is v next → Cut text from-place (record { start = start; end = next })
+  cut-name {v} {next} e =
+      let found = cut-found begun in
+      let known = told (Numeral.Is v next) e (found .0) (found .1) in
+      let c = cut-begun begun (found .1) in
+      let ends : found .0 .end ≡ next = sym (known .0) in
+      let some = led-some c (led-name e) in
+      let starts = cut-start begun (found .1) some in
+      subst (Cut text from-place) (ap₂ (λ (a b : ℕ). record { start = a; end = b }) starts ends) c
+
+  pub lacks-name : name-at ≡ Numeral.Nothing → Stuck text from-place (name ∷ []) from-place
+  lacks-name e =
+      let found = cut-found begun in
+      stuck-cut (cut-begun begun (found .1)) name refl (ap expected (nameless-token _ (told Numeral.Nothing e (found .0) (found .1))))
 
 pub variable-known : {text : List ℕ} {at next v : ℕ} → Led text at (word.variable v) next → v < width
 variable-known {text} {at} led = subst AllKnown (led .is) (tokens-known (from text at)) .0

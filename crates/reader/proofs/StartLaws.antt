@@ -5,7 +5,7 @@ use mathlib.Core.Bool.{Bool, true, false, not, _&&_, true≢false}
 use mathlib.Core.List.{List, [], _∷_}
 use mathlib.Core.Path.{_≡_, refl, sym, ap, ap₂, subst, _∙_}
 use lib.Dec.{eqb}
-use lib.ListN.{length, getD, drop}
+use lib.ListN.{length, getD, take, drop}
 use borrow.Author.Tests.{eqb-true, eqb-false, eq-eqb}
 use Rattle.language.specs.Words.{isBlank, isJoining, joins}
 use Rattle.language.specs.Tokens.{same}
@@ -58,6 +58,16 @@ run-of (suc n) text at next e inside all i h k =
     by true false here first others is both more = clash (cc)
     by false b here first others is both more = clash (cc)
 
+pub all-of : (text : List ℕ) (at end : ℕ) → JoinedTo text at end → allJoining (part text at end) ≡ true
+all-of text at end j = from-place (end - at) at (omega (arith, j .later)) (omega arith)
+  where
+    from-place : (n i : ℕ) → i + n ≡ end → at ≤ i → allJoining (part text i end) ≡ true
+    from-place zero i e k = let none : 0 ≡ end - i = omega arith in ap (λ (m : ℕ). allJoining (take m (drop i text))) (sym none)
+    from-place (suc n) i e k =
+        let inside = j .inside in
+        ap allJoining (part-next text i end (omega arith) (omega arith))
+        ∙ ap₂ (λ (a b : Bool). a && b) (j .run i (omega arith) k) (from-place n (i + 1) (omega arith) (omega arith))
+
 -- ---- the word
 
 module _ (key : List ℕ) {text : List ℕ} {at : ℕ} {w : Span} (one : oneWord key ≡ true)
@@ -71,7 +81,7 @@ module _ (key : List ℕ) {text : List ℕ} {at : ℕ} {w : Span} (one : oneWord
       let later = c .later (omega arith) in
       let room : at < length text = omega arith in
       let found = cut-some room (shown room) in
-      let start : w .start ≡ at = ap (λ (s : Span). s .start) (cut-once c (found .1)) in
+      let start : w .start ≡ at = ap (λ (s : Span). s .start) (cut-once c (found .2)) in
       (room, (start, omega arith))
 
   -- the word is not the key, where that it were would be absurd

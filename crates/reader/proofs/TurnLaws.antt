@@ -14,21 +14,23 @@ use Rattle.language.specs.Tokens as word
 use Rattle.language.specs.Tokens.{Token, same, counted, tokenOf}
 use Rattle.language.specs.Recipes.{exprTokens}
 use Rattle.language.specs.Tables.{exprBelow, exprRows, operatorNumber}
-use Rattle.spans.specs.Cut.{part, Cut}
+use Rattle.spans.specs.Cut.{part, Begun, Cut}
 use Rattle.spans.specs.declared.Span.{Span}
+use Rattle.spans.proofs.WordLaws.{cut-begun, cut-found}
 use Rattle.reader.specs.Machine.{tag, isWord, isVariable, isNumeral, isSign, Symbol, expr, stop, advance, onExpr, expected, mayEnd, run}
-use Rattle.reader.specs.Atoms.{atomOf, signNumber}
+use Rattle.reader.specs.Atoms.{atomOf, AtomIs, VariableAt, ConstantAt, signNumber, SignAt}
 use Rattle.rules.specs.Limits.{tableWords}
 use Rattle.reader.specs.Rows.{rowPut, rowsPut}
 use Rattle.reader.specs.Steps.{Asked, Stuck, Read, expressions}
-use Rattle.reader.specs.Statements.{Led}
+use Rattle.reader.specs.Statements.{oneWord, Compared, Led}
 use Rattle.reader.specs.Frames.{Frame, waiting, having, mostHeld, framesOwed, Whole, nothing, just, framesTokens, wholeTokens, Ready, Standing, Reached, Turned}
-use Rattle.reader.specs.declared.atoms.Atom.{Atom}
+use Rattle.reader.specs.Atoms as atom
+use Rattle.reader.specs.declared.atoms.Numeral.{Numeral}
 use Rattle.reader.specs.declared.expressions.Inside.{Inside}
 use Rattle.reader.specs.declared.expressions.Turn.{Turn}
 use Rattle.reader.proofs.Clash.{clash}
 use Rattle.reader.proofs.SpellLaws.{spells-opening, spells-closing}
-use Rattle.reader.proofs.AtomLaws.{atom-is}
+use Rattle.reader.proofs.AtomLaws.{atom-is, atom-nothing}
 use Rattle.reader.proofs.RowLaws.{rowPut-length}
 use Rattle.reader.proofs.PlaceLaws.{later-self, led-token, led-key, stuck-more, stuck-past, stuck-cut}
 use Rattle.reader.proofs.FrameLaws.{symbolsAfter, run-reached, frames-owed, sign-few, open-one, put-one, sign-one, close-one}
@@ -78,7 +80,7 @@ un-signed t six = by (sign-fits t)
         let number : operatorNumber o ≡ 6 = ap signNumber (sym is) ∙ six in
         absurd (omega arith)
 
-pub sign-most : {sign : ℕ} (t : Token) → sign ≡ signNumber t → (sign ≡ 6 → ⊥) → sign ≤ 5
+sign-most : {sign : ℕ} (t : Token) → sign ≡ signNumber t → (sign ≡ 6 → ⊥) → sign ≤ 5
 unfolding signNumber
 sign-most {sign} t is some =
     let found = is-signed t (λ six. some (is ∙ six)) in
@@ -133,7 +135,7 @@ module _ {text : List ℕ} {s : Inside} {rows held : List ℕ} {span : Span} {by
     opening-led : same (40 ∷ []) bytes ≡ true → Led text (s .at) word.opening (span .end)
     opening-led key = led-key cut is refl key spells-opening
 
-    pub opened : same (40 ∷ []) bytes ≡ true
+    opened : same (40 ∷ []) bytes ≡ true
         → Turned text s rows held (went (span .end) (s .count) (s .depth + 1) false) rows (set held (s .depth % mostHeld) 0)
     opened key =
         let next = opening-led key in
@@ -159,17 +161,17 @@ module _ {text : List ℕ} {s : Inside} {rows held : List ℕ} {span : Span} {by
               (old .0, just e, put-one quad e put words row alone next (old .1)),
         )
 
-    pub constant-put : {value : ℕ} {left : List ℕ} → left ≡ rowPut (s .count) (8, value, 0, 0) rows → atomOf (tokenOf bytes) ≡ Atom.Constant value
+    constant-put : {value : ℕ} {left : List ℕ} → left ≡ rowPut (s .count) (8, value, 0, 0) rows → atomOf (tokenOf bytes) ≡ atom.constant value
         → Turned text s rows held (went (span .end) (s .count + 1) (s .depth) true) left held
     constant-put {value} put atom =
         leaf-put (8, value, 0, 0) (constant value) put refl (λ base. refl) refl (atom-is (tokenOf bytes) atom) (λ e. clash (cc))
 
-    pub variable-put : {v : ℕ} {left : List ℕ} → left ≡ rowPut (s .count) (9, v, 0, 0) rows → atomOf (tokenOf bytes) ≡ Atom.Variable v
+    variable-put : {v : ℕ} {left : List ℕ} → left ≡ rowPut (s .count) (9, v, 0, 0) rows → atomOf (tokenOf bytes) ≡ atom.variable v
         → Turned text s rows held (went (span .end) (s .count + 1) (s .depth) true) left held
     variable-put {v} put atom =
         leaf-put (9, v, 0, 0) (variable v) put refl (λ base. refl) refl (atom-is (tokenOf bytes) atom) (λ e. clash (cc))
 
-    pub unbegun : same (40 ∷ []) bytes ≡ false → atomOf (tokenOf bytes) ≡ Atom.Nothing
+    unbegun : same (40 ∷ []) bytes ≡ false → atomOf (tokenOf bytes) ≡ atom.nothing
         → Turned text s rows held Turn.Faulty rows held
     unbegun key atom = (
       ready .rows-long,
@@ -217,7 +219,7 @@ module _ {text : List ℕ} {s : Inside} {rows held : List ℕ} {span : Span} {by
     room : last % mostHeld < length held
     room = omega (arith, ready .held-long)
 
-    pub signed : {sign entry : ℕ} → getD held (last % mostHeld) 0 ≡ 0 → sign ≡ signNumber (tokenOf bytes) → (sign ≡ 6 → ⊥) → entry ≡ (s .count - 1) * 8 + sign + 1
+    signed : {sign entry : ℕ} → getD held (last % mostHeld) 0 ≡ 0 → sign ≡ signNumber (tokenOf bytes) → (sign ≡ 6 → ⊥) → entry ≡ (s .count - 1) * 8 + sign + 1
         → Turned text s rows held (went (span .end) (s .count) (last + 1) false) rows (set held (last % mostHeld) entry)
     unfolding signNumber
     signed {sign} {entry} empty number some made =
@@ -236,7 +238,7 @@ module _ {text : List ℕ} {s : Inside} {rows held : List ℕ} {span : Span} {by
               ),
         )
 
-    pub unsigned : getD held (last % mostHeld) 0 ≡ 0 → signNumber (tokenOf bytes) ≡ 6 → Turned text s rows held Turn.Faulty rows held
+    unsigned : getD held (last % mostHeld) 0 ≡ 0 → signNumber (tokenOf bytes) ≡ 6 → Turned text s rows held Turn.Faulty rows held
     unsigned empty none = (
       ready .rows-long,
       ready .held-long,
@@ -245,7 +247,7 @@ module _ {text : List ℕ} {s : Inside} {rows held : List ℕ} {span : Span} {by
           stuck-at (old .2) refl refl (ap expected (un-signed (tokenOf bytes) none)),
     )
 
-    pub closed : {entry : ℕ} {left : List ℕ} → left ≡ rowPut (s .count) (10, (entry - 1) % 8, (entry - 1) / 8, s .count - 1) rows
+    closed : {entry : ℕ} {left : List ℕ} → left ≡ rowPut (s .count) (10, (entry - 1) % 8, (entry - 1) / 8, s .count - 1) rows
         → entry ≡ getD held (last % mostHeld) 0 → (entry ≡ 0 → ⊥) → same (41 ∷ []) bytes ≡ true
         → Turned text s rows held (went (span .end) (s .count + 1) last true) left held
     closed {entry} put is-entry full key =
@@ -262,7 +264,7 @@ module _ {text : List ℕ} {s : Inside} {rows held : List ℕ} {span : Span} {by
               ),
         )
 
-    pub unclosed : (getD held (last % mostHeld) 0 ≡ 0 → ⊥) → same (41 ∷ []) bytes ≡ false → Turned text s rows held Turn.Faulty rows held
+    unclosed : (getD held (last % mostHeld) 0 ≡ 0 → ⊥) → same (41 ∷ []) bytes ≡ false → Turned text s rows held Turn.Faulty rows held
     unclosed full key = (
       ready .rows-long,
       ready .held-long,
@@ -270,6 +272,79 @@ module _ {text : List ℕ} {s : Inside} {rows held : List ℕ} {span : Span} {by
           let old = paired full reached in
           stuck-at (old .4) refl refl (ap expected (sym (spells-closing .told bytes) ∙ key)),
     )
+
+-- ---- the same, by what is said of the word that starts at a place
+
+module _ {text : List ℕ} {s : Inside} {rows held : List ℕ} {start : ℕ} (ready : Ready text s rows held) (started : Begun text (s .at) start) where
+  first-word : Cut text start (cut-found started .0)
+  first-word = cut-found started .1
+
+  told-key : (key : List ℕ) {r : Bool} → oneWord key ≡ true → Compared text start key r
+      → (r ≡ same key (part text (cut-found started .0 .start) (cut-found started .0 .end))) × (r ≡ true → cut-found started .0 .end ≡ start + length key)
+  told-key key one compared = compared one (started .shown) (cut-found started .0) first-word
+
+  module _ (begins : s .whole ≡ false) where
+    pub begun-opening : {r : Bool} → Compared text start (40 ∷ []) r → r ≡ true
+        → Turned text s rows held (went (start + 1) (s .count) (s .depth + 1) false) rows (set held (s .depth % mostHeld) 0)
+    begun-opening compared yes′ =
+        let told = told-key (40 ∷ []) refl compared in
+        subst (λ (n : ℕ). Turned text s rows held (went n (s .count) (s .depth + 1) false) rows (set held (s .depth % mostHeld) 0)) (told .1 yes′)
+        (opened ready (cut-begun started first-word) refl begins (sym (told .0) ∙ yes′))
+
+    pub begun-variable : {value next : ℕ} {left : List ℕ} {r : Numeral} → VariableAt text start r → r ≡ Numeral.Is value next
+        → left ≡ rowPut (s .count) (9, value, 0, 0) rows → Turned text s rows held (went next (s .count + 1) (s .depth) true) left held
+    begun-variable {value} {next} {left} said e put =
+        let known = subst (AtomIs atom.variable _ (cut-found started .0 .end)) e (said (started .inside) (started .shown) (cut-found started .0) first-word) in
+        subst (λ (n : ℕ). Turned text s rows held (went n (s .count + 1) (s .depth) true) left held) (sym (known .0))
+        (variable-put ready (cut-begun started first-word) refl begins put (known .1))
+
+    pub begun-constant : {value next : ℕ} {left : List ℕ} {r : Numeral} → ConstantAt text start r → r ≡ Numeral.Is value next
+        → left ≡ rowPut (s .count) (8, value, 0, 0) rows → Turned text s rows held (went next (s .count + 1) (s .depth) true) left held
+    begun-constant {value} {next} {left} said e put =
+        let known = subst (AtomIs atom.constant _ (cut-found started .0 .end)) e (said (started .inside) (started .shown) (cut-found started .0) first-word) in
+        subst (λ (n : ℕ). Turned text s rows held (went n (s .count + 1) (s .depth) true) left held) (sym (known .0))
+        (constant-put ready (cut-begun started first-word) refl begins put (known .1))
+
+    pub begun-nothing : {r : Bool} {a b : Numeral} → Compared text start (40 ∷ []) r → r ≡ false → VariableAt text start a → a ≡ Numeral.Nothing
+        → ConstantAt text start b → b ≡ Numeral.Nothing → Turned text s rows held Turn.Faulty rows held
+    begun-nothing compared no′ variable-said none constant-said none′ =
+        let bytes : List ℕ = part text (cut-found started .0 .start) (cut-found started .0 .end) in
+        unbegun ready (cut-begun started first-word) refl begins (sym (told-key (40 ∷ []) refl compared .0) ∙ no′)
+        (atom-nothing (atomOf (tokenOf bytes))
+        (subst (AtomIs atom.variable (atomOf (tokenOf bytes)) (cut-found started .0 .end)) none (variable-said (started .inside) (started .shown) (cut-found started .0) first-word))
+        (subst (AtomIs atom.constant (atomOf (tokenOf bytes)) (cut-found started .0 .end)) none′ (constant-said (started .inside) (started .shown) (cut-found started .0) first-word)))
+
+  module _ (over : s .whole ≡ true) (deep : s .depth ≡ 0 → ⊥) where
+    abbrev outer : ℕ
+    outer = s .depth - 1
+
+    pub over-few : {sign : ℕ} → SignAt text start sign → (sign ≡ 6 → ⊥) → sign ≤ 5
+    over-few said some = sign-most _ (said (started .shown) (cut-found started .0) first-word .0) some
+
+    pub over-sign : {sign entry : ℕ} → getD held (outer % mostHeld) 0 ≡ 0 → SignAt text start sign → (sign ≡ 6 → ⊥) → entry ≡ (s .count - 1) * 8 + sign + 1
+        → Turned text s rows held (went (start + 1) (s .count) (outer + 1) false) rows (set held (outer % mostHeld) entry)
+    over-sign {sign} {entry} empty said some made =
+        let told = said (started .shown) (cut-found started .0) first-word in
+        subst (λ (n : ℕ). Turned text s rows held (went n (s .count) (outer + 1) false) rows (set held (outer % mostHeld) entry)) (told .1 some)
+        (signed ready (cut-begun started first-word) refl over deep empty (told .0) some made)
+
+    pub over-unsigned : {sign : ℕ} → getD held (outer % mostHeld) 0 ≡ 0 → SignAt text start sign → sign ≡ 6 → Turned text s rows held Turn.Faulty rows held
+    over-unsigned empty said six =
+        unsigned ready (cut-begun started first-word) refl over deep empty
+        (sym (said (started .shown) (cut-found started .0) first-word .0) ∙ six)
+
+    pub over-closing : {entry : ℕ} {left : List ℕ} {r : Bool} → left ≡ rowPut (s .count) (10, (entry - 1) % 8, (entry - 1) / 8, s .count - 1) rows
+        → entry ≡ getD held (outer % mostHeld) 0 → (entry ≡ 0 → ⊥) → Compared text start (41 ∷ []) r → r ≡ true
+        → Turned text s rows held (went (start + 1) (s .count + 1) outer true) left held
+    over-closing {left = left} put is-entry full compared yes′ =
+        let told = told-key (41 ∷ []) refl compared in
+        subst (λ (n : ℕ). Turned text s rows held (went n (s .count + 1) outer true) left held) (told .1 yes′)
+        (closed ready (cut-begun started first-word) refl over deep put is-entry full (sym (told .0) ∙ yes′))
+
+    pub over-unclosed : {r : Bool} → (getD held (outer % mostHeld) 0 ≡ 0 → ⊥) → Compared text start (41 ∷ []) r → r ≡ false
+        → Turned text s rows held Turn.Faulty rows held
+    over-unclosed full compared no′ =
+        unclosed ready (cut-begun started first-word) refl over deep full (sym (told-key (41 ∷ []) refl compared .0) ∙ no′)
 
 -- ---- the whole expression
 

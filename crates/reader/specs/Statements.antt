@@ -12,7 +12,7 @@ use Rattle.spans.specs.declared.Span.{Span}
 use Rattle.reader.specs.Machine.{isWord, statement}
 use Rattle.reader.specs.Steps.{statements, Later, Missing, Stepped}
 use Rattle.reader.specs.declared.expressions.Step.{Step}
-use Rattle.reader.specs.declared.statements.Found.{Found}
+use Rattle.reader.specs.declared.words.Found.{Found}
 
 -- a key that is one word: letters and digits, or a single byte
 abbrev pub allJoining : List ℕ → Bool

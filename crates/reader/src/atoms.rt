@@ -1,85 +1,89 @@
 // What a word is in an expression.
+use crate::words::is_word;
 use numbers::Field;
 use numbers::MOST_WORD;
 use numbers::number_at;
 use rules::VARIABLES;
-use rules::WORD_VALUES;
-use spans::is_key;
+use spans::is_joined;
 ghost use mathlib.Core.Path.{_≡_};
-ghost use lib.ListN.{drop};
-ghost use Rattle.language.specs.Tokens.{tokenOf};
-ghost use Rattle.reader.specs.Atoms.{wholeFrom, atomOf, signNumber};
+ghost use Prim.Native.Nat.{_+_, _≤_};
+ghost use lib.ListN.{length};
+ghost use Rattle.lines.specs.Limits.{mostWord};
+ghost use Rattle.reader.specs.Atoms.{NumberTo, VariableAt, ConstantAt, SignAt};
 
-// A word that is an expression by itself.
-pub enum Atom {
+// A word's number and the place after the word; or that the word is of another sort.
+pub enum Numeral {
     Nothing,
-    Constant(u32),
-    Variable(u32),
+    Is { value: u32, next: usize },
 }
 
 // What a word is that is no operator, where an operator has its number.
 pub const NO_SIGN: u32 = 6;
 
-// The number that is all of a word from a place on, where it is at most so much; else a number that is no value.
-fn number_from(word: &[u8], at: usize, most: u64) -> u64
-    ensures { λ r. ⌜ r ≡ wholeFrom most (drop at (now (word .entry))) ⌝ }
+// The number that stands from a place on to the end of a word, where it is at most so much.
+fn number_to_end(text: &[u8], at: usize, most: u64) -> Numeral
+    requires { ⌜ most ≤ mostWord ⌝ }
+    ensures { λ r. ⌜ NumberTo (now (text .entry)) at most r ⌝ }
 {
-    let found = number_at(word, at);
+    let found = number_at(text, at);
     match found {
-        Field::Nothing => WORD_VALUES,
+        Field::Nothing => Numeral::Nothing,
         Field::Number { value, next } => {
-            if next != word.len() {
-                return WORD_VALUES;
-            }
             if most < value {
-                return WORD_VALUES;
+                return Numeral::Nothing;
             }
-            value
+            if is_joined(text, next) {
+                return Numeral::Nothing;
+            }
+            Numeral::Is {
+                value: value as u32,
+                next,
+            }
         }
     }
 }
 
-// What a word is as an expression by itself.
-pub fn atom_of(word: &[u8]) -> Atom
-    ensures { λ r. ⌜ r ≡ atomOf (tokenOf (now (word .entry))) ⌝ }
+// The variable that the word at a place is.
+pub fn variable_at(text: &[u8], at: usize) -> Numeral
+    ensures { λ r. ⌜ VariableAt (now (text .entry)) at r ⌝ }
 {
-    if word.len() == 0 {
-        return Atom::Nothing;
+    if text.len() <= at {
+        return Numeral::Nothing;
     }
-    if word[0] == b'v' {
-        let variable = number_from(word, 1, VARIABLES as u64 - 1);
-        if variable == WORD_VALUES {
-            return Atom::Nothing;
-        }
-        return Atom::Variable(variable as u32);
+    if text[at] != b'v' {
+        return Numeral::Nothing;
     }
-    let value = number_from(word, 0, MOST_WORD);
-    if value == WORD_VALUES {
-        return Atom::Nothing;
-    }
-    Atom::Constant(value as u32)
+    number_to_end(text, at + 1, VARIABLES as u64 - 1)
 }
 
-// The number of the operator that a word is.
-pub fn sign_of(word: &[u8]) -> u32
-    ensures { λ r. ⌜ r ≡ signNumber (tokenOf (now (word .entry))) ⌝ }
+// The number that the word at a place is.
+pub fn constant_at(text: &[u8], at: usize) -> Numeral
+    ensures { λ r. ⌜ ConstantAt (now (text .entry)) at r ⌝ }
 {
-    if is_key(word, b"+") {
+    number_to_end(text, at, MOST_WORD)
+}
+
+// The number of the operator that the word at a place is.
+pub fn sign_at(text: &[u8], at: usize) -> u32
+    requires { ⌜ at ≤ length (now text) ⌝ }
+    ensures { λ r. ⌜ SignAt (now (text .entry)) at r × ((r ≡ 6 → ⊥) → at + 1 ≤ length (now (text .entry))) ⌝ }
+{
+    if is_word(text, at, b"+") {
         return 0;
     }
-    if is_key(word, b"-") {
+    if is_word(text, at, b"-") {
         return 1;
     }
-    if is_key(word, b"*") {
+    if is_word(text, at, b"*") {
         return 2;
     }
-    if is_key(word, b"/") {
+    if is_word(text, at, b"/") {
         return 3;
     }
-    if is_key(word, b"=") {
+    if is_word(text, at, b"=") {
         return 4;
     }
-    if is_key(word, b"<") {
+    if is_word(text, at, b"<") {
         return 5;
     }
     NO_SIGN

@@ -1,17 +1,17 @@
 // An expression's words, read from the left to the right. What is open stands in a lent array, an entry for each parenthesis: 0
 // where its left side is being read, and else the left side's row and the operator's number.
-use crate::atoms::Atom;
 use crate::atoms::NO_SIGN;
-use crate::atoms::atom_of;
-use crate::atoms::sign_of;
+use crate::atoms::Numeral;
+use crate::atoms::constant_at;
+use crate::atoms::sign_at;
+use crate::atoms::variable_at;
 use crate::put::BINARY;
 use crate::put::CONSTANT;
 use crate::put::VARIABLE;
 use crate::put::put_row;
+use crate::words::is_word;
 use rules::TABLE_WORDS;
-use spans::is_key;
-use spans::word_at;
-use spans::word_part;
+use spans::start_at;
 ghost use mathlib.Core.Bool.{true, false};
 ghost use mathlib.Core.List.{[], _∷_};
 ghost use mathlib.Core.Path.{_≡_};
@@ -67,41 +67,43 @@ fn begin(text: &[u8], s: Inside, rows: &mut [u32; TABLE_WORDS], held: &mut [u32;
     ensures { λ r. ⌜
         Turned (now (text .entry)) s (now (rows .entry)) (now (held .entry)) r (now (rows .exit)) (now (held .exit)) ⌝ }
 {
-    let w = word_at(text, s.at);
-    let start = w.start;
-    let end = w.end;
-    let word = word_part(text, start, end);
+    let start = start_at(text, s.at);
     let depth = s.depth;
     let count = s.count;
-    if is_key(word, b"(") {
+    if is_word(text, start, b"(") {
         held[depth % MOST_HELD] = 0;
         return Turn::Went(Inside {
-            at: end,
+            at: start + 1,
             count,
             depth: depth + 1,
             whole: false,
         });
     }
-    let atom = atom_of(word);
-    match atom {
-        Atom::Nothing => Turn::Faulty,
-        Atom::Constant(value) => {
-            put_row(rows, count, CONSTANT, value, 0, 0);
+    let name = variable_at(text, start);
+    match name {
+        Numeral::Is { value, next } => {
+            put_row(rows, count, VARIABLE, value, 0, 0);
             Turn::Went(Inside {
-                at: end,
+                at: next,
                 count: count + 1,
                 depth,
                 whole: true,
             })
         }
-        Atom::Variable(variable) => {
-            put_row(rows, count, VARIABLE, variable, 0, 0);
-            Turn::Went(Inside {
-                at: end,
-                count: count + 1,
-                depth,
-                whole: true,
-            })
+        Numeral::Nothing => {
+            let number = constant_at(text, start);
+            match number {
+                Numeral::Nothing => Turn::Faulty,
+                Numeral::Is { value, next } => {
+                    put_row(rows, count, CONSTANT, value, 0, 0);
+                    Turn::Went(Inside {
+                        at: next,
+                        count: count + 1,
+                        depth,
+                        whole: true,
+                    })
+                }
+            }
         }
     }
 }
@@ -115,27 +117,24 @@ fn go_on(text: &[u8], s: Inside, rows: &mut [u32; TABLE_WORDS], held: &mut [u32;
     if s.depth == 0 {
         return Turn::Over;
     }
-    let w = word_at(text, s.at);
-    let start = w.start;
-    let end = w.end;
-    let word = word_part(text, start, end);
+    let start = start_at(text, s.at);
     let count = s.count;
     let last = s.depth - 1;
     let entry = held[last % MOST_HELD];
     if entry == 0 {
-        let sign = sign_of(word);
+        let sign = sign_at(text, start);
         if sign == NO_SIGN {
             return Turn::Faulty;
         }
         held[last % MOST_HELD] = entry_of(count - 1, sign);
         return Turn::Went(Inside {
-            at: end,
+            at: start + 1,
             count,
             depth: last + 1,
             whole: false,
         });
     }
-    if !is_key(word, b")") {
+    if !is_word(text, start, b")") {
         return Turn::Faulty;
     }
     put_row(
@@ -147,7 +146,7 @@ fn go_on(text: &[u8], s: Inside, rows: &mut [u32; TABLE_WORDS], held: &mut [u32;
         count - 1,
     );
     Turn::Went(Inside {
-        at: end,
+        at: start + 1,
         count: count + 1,
         depth: last,
         whole: true,

@@ -1,12 +1,13 @@
 // A recipe's declarations.
-use crate::atoms::Atom;
-use crate::atoms::atom_of;
-use crate::statements::Found;
-use crate::statements::expect;
+use crate::atoms::Numeral;
+use crate::atoms::variable_at;
+use crate::words::Found;
+use crate::words::expect;
 use leaves::marks::has_mark;
 use leaves::marks::mark_as;
 use rules::Marks;
 use spans::is_key;
+use spans::start_at;
 use spans::word_at;
 use spans::word_part;
 ghost use mathlib.Core.Bool.{_&&_};
@@ -88,14 +89,14 @@ fn read_level(text: &[u8], from: usize) -> Level
 fn read_declaration(text: &[u8], from: usize) -> Declared
     ensures { λ r. ⌜ DeclarationRead (now (text .entry)) from r ⌝ }
 {
-    let w = word_at(text, from);
-    let start = w.start;
-    let end = w.end;
-    let atom = atom_of(word_part(text, start, end));
-    match atom {
-        Atom::Nothing => Declared::Faulty(from),
-        Atom::Constant(_) => Declared::Faulty(from),
-        Atom::Variable(variable) => {
+    let start = start_at(text, from);
+    let name = variable_at(text, start);
+    match name {
+        Numeral::Nothing => Declared::Faulty(from),
+        Numeral::Is {
+            value: variable,
+            next: end,
+        } => {
             let level = read_level(text, end);
             match level {
                 Level::Over { provisional, next } => Declared::As {

@@ -4,6 +4,7 @@ mod expressions;
 mod head;
 mod put;
 mod statements;
+mod words;
 
 use crate::expressions::MOST_HELD;
 use crate::expressions::MOST_TEXT;

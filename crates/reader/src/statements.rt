@@ -1,6 +1,6 @@
 // Statements and blocks: their readers call each other. A reader keeps its steps in one local, so that a call takes little stack.
-use crate::atoms::Atom;
-use crate::atoms::atom_of;
+use crate::atoms::Numeral;
+use crate::atoms::variable_at;
 use crate::expressions::MOST_HELD;
 use crate::expressions::Step;
 use crate::expressions::read_expression;
@@ -11,63 +11,26 @@ use crate::put::SEQUENCE;
 use crate::put::SKIP;
 use crate::put::WHILE;
 use crate::put::put_row;
+use crate::words::Found;
+use crate::words::expect;
 use rules::TABLE_WORDS;
-use spans::is_joined;
 use spans::is_key;
 use spans::start_at;
 use spans::word_at;
 use spans::word_part;
-ghost use mathlib.Core.Bool.{true};
 ghost use mathlib.Core.List.{[], _∷_};
 ghost use mathlib.Core.Path.{_≡_};
-ghost use Prim.Native.Nat.{_+_, _≤_};
 ghost use lib.ListN.{length};
 ghost use Rattle.language.specs.Tokens as word;
 ghost use Rattle.reader.specs.Machine.{statement};
 ghost use Rattle.reader.specs.Steps.{statements, Asked, Stepped, BlockStepped};
 ghost use Rattle.reader.specs.Frames.{mostHeld};
-ghost use Rattle.reader.specs.Statements.{Compared, Looked, Ended, After, OutputAfter};
+ghost use Rattle.reader.specs.Statements.{Ended, After, OutputAfter};
 
 // 2.8: Channel 0 is the settled one, which the stations read, and channel 1 the provisional one.
 const SETTLED: u32 = 0;
 
 const PROVISIONAL: u32 = 1;
-
-// The place after a word; or that another word stands there, or none.
-pub enum Found {
-    Next(usize),
-    Missing,
-}
-
-// Whether the word that starts at a place is this key. Its end is not looked for: the key stands there, and the word does not go on.
-fn is_word(text: &[u8], at: usize, key: &[u8]) -> bool
-    requires { ⌜ at ≤ length (now text) ⌝ }
-    ensures { λ r. ⌜
-        Compared (now (text .entry)) at (now (key .entry)) r × (r ≡ true → at + length (now (key .entry)) ≤ length (now (text .entry))) ⌝ }
-{
-    if text.len() - at < key.len() {
-        return false;
-    }
-    let next = at + key.len();
-    if !is_key(word_part(text, at, next), key) {
-        return false;
-    }
-    if is_joined(key, 0) {
-        return !is_joined(text, next);
-    }
-    true
-}
-
-// Whether the word at a place is this key.
-pub fn expect(text: &[u8], from: usize, key: &[u8]) -> Found
-    ensures { λ r. ⌜ Looked (now (text .entry)) from (now (key .entry)) r ⌝ }
-{
-    let start = start_at(text, from);
-    if is_word(text, start, key) {
-        return Found::Next(start + key.len());
-    }
-    Found::Missing
-}
 
 // Reads this word after what a step has read.
 fn ended(text: &[u8], step: Step, key: &[u8]) -> Step
@@ -125,14 +88,14 @@ fn read_set(
         After word.set (now (text .entry)) from count (now (rows .entry)) r (now (rows .exit))
         × (length (now (held .exit)) ≡ mostHeld) ⌝ }
 {
-    let w = word_at(text, from);
-    let start = w.start;
-    let end = w.end;
-    let atom = atom_of(word_part(text, start, end));
-    match atom {
-        Atom::Nothing => Step::Faulty(from),
-        Atom::Constant(_) => Step::Faulty(from),
-        Atom::Variable(variable) => {
+    let start = start_at(text, from);
+    let name = variable_at(text, start);
+    match name {
+        Numeral::Nothing => Step::Faulty(from),
+        Numeral::Is {
+            value: variable,
+            next: end,
+        } => {
             let equal = expect(text, end, b"=");
             match equal {
                 Found::Missing => Step::Faulty(end),

@@ -283,14 +283,14 @@ module _ {text : List ℕ} {at : ℕ} where
       (ap (λ (w : Span). w .start) is, subst (λ (w : Span). JoinedTo text (at + 1) (w .end)) (sym is) (found .1))
 
   -- there is a word, and it starts there
-  pub cut-some : at < length text → isBlank (getD text at 0) ≡ false → (end : ℕ) × Cut text at (span at end)
+  pub cut-some : at < length text → isBlank (getD text at 0) ≡ false → (end : ℕ) × (at < end) × Cut text at (span at end)
   cut-some h blank = by (isJoining (getD text at 0)) refl
     where
-      by : (b : Bool) → isJoining (getD text at 0) ≡ b → (end : ℕ) × Cut text at (span at end)
+      by : (b : Bool) → isJoining (getD text at 0) ≡ b → (end : ℕ) × (at < end) × Cut text at (span at end)
       by true joining =
           let found = joined-end (length text - (at + 1)) text (at + 1) (omega arith) in
-          (found .0, cut-run text at (found .0) joining (found .1))
-      by false joining = (at + 1, cut-one text at h blank joining)
+          (found .0, omega (arith, found .1 .later), cut-run text at (found .0) joining (found .1))
+      by false joining = (at + 1, omega arith, cut-one text at h blank joining)
 
 -- there is a word from every place on, or none
 pub cut-found : {text : List ℕ} {at start : ℕ} → Begun text at start → (s : Span) × Cut text start s
@@ -300,8 +300,15 @@ cut-found {text} {at} {start} b = by (ltb start (length text)) refl
     by true h =
         let room = ltb-true start (length text) h in
         let found = cut-some room (b .shown room) in
-        (span start (found .0), found .1)
+        (span start (found .0), found .2)
     by false h = (span (length text) (length text), cut-end text start (ltb-false start (length text) h))
+
+pub cut-start : {text : List ℕ} {at start : ℕ} {s : Span} → Begun text at start → Cut text start s → s .start < s .end → s .start ≡ start
+cut-start {text} {start = start} b c some =
+    let later = c .later some in
+    let inside = c .inside in
+    let room : start < length text = omega arith in
+    ap (λ (w : Span). w .start) (cut-once c (cut-some room (b .shown room) .2))
 
 -- no second place is the first where no blank stands
 pub begun-once : {text : List ℕ} {at start other : ℕ} → Begun text at start → Begun text at other → start ≡ other
@@ -310,7 +317,7 @@ begun-once {text} {at} {start} {other} b c = sym (place b (ltb start (length tex
     ahead : {i : ℕ} → Begun text at i → i < length text → partAt text (from text at) .start ≡ i
     ahead {i} d h =
         let found = cut-some h (d .shown h) in
-        ap (λ (p : Part). p .start) (cut-part (cut-begun d (found .1)))
+        ap (λ (p : Part). p .start) (cut-part (cut-begun d (found .2)))
 
     past : {i : ℕ} → Begun text at i → length text ≤ i → partAt text (from text at) .start ≡ i
     past {i} d h =

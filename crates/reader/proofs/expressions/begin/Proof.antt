@@ -1,21 +1,19 @@
 -- `reader::expressions::begin` meets its contract. Assumes nothing.
-use mathlib.Core.Path.{sym, _∙_}
+use native.Mathlib.Omega.{arith}
+use mathlib.Core.Path.{refl}
 use borrow.Author.Needs.{needs}
-use Rattle.reader.proofs.TurnLaws.{opened, constant-put, variable-put, unbegun}
+use Rattle.reader.proofs.TurnLaws.{begun-opening, begun-variable, begun-constant, begun-nothing}
 use Rattle.reader.proofs.expressions.begin.Statement.{statement}
 use Rattle.reader.proofs.expressions.begin.Tie as tie
 
-word-at-requires : tie.Need-word-at-requires
-word-at-requires c κs = search needs
+start-at-requires : tie.Need-start-at-requires
+start-at-requires c κs = search needs
 
-word-part-requires : tie.Need-word-part-requires
-word-part-requires c κs = search needs
+slice-aggregate-is-word : tie.Need-slice-aggregate-is-word
+slice-aggregate-is-word c = search needs
 
-slice-aggregate-is-key : tie.Need-slice-aggregate-is-key
-slice-aggregate-is-key c = search needs
-
-is-key-requires : tie.Need-is-key-requires
-is-key-requires c κs = search needs
+is-word-requires : tie.Need-is-word-requires
+is-word-requires c κs = c .before .start-at .ensures .inside
 
 mul-held : tie.Need-mul-held
 mul-held c = search needs
@@ -24,25 +22,23 @@ element-write-held : tie.Need-element-write-held
 element-write-held c = search needs
 
 add-t18 : tie.Need-add-t18
-add-t18 c = search needs
+add-t18 c = omega (arith, c .before .is-word .ensures .1 (c .if1 .taken))
+
+add-t19 : tie.Need-add-t19
+add-t19 c = search needs
 
 returns : tie.Need-returns
 returns c =
-    let key = c .before in
-    let parted = key .before .before in
-    let at = parted .before in
-    let start = at .before .before in
-    opened (start .pre .0) (at .word-at .ensures) (parted .word-part .ensures) (start .pre .1)
-    (sym (key .is-key .ensures) ∙ c .if1 .taken)
+    let asked = c .before in
+    let started = asked .before .before in
+    let start = started .before .before in
+    begun-opening (start .pre .0) (started .start-at .ensures) (start .pre .1) (asked .is-word .ensures .0) (c .if1 .taken)
 
-atom-of-requires : tie.Need-atom-of-requires
-atom-of-requires c κs = search needs
+variable-at-requires : tie.Need-variable-at-requires
+variable-at-requires c κs = search needs
 
-enum-told : tie.Need-enum-told
-enum-told c = search needs
-
-enum-known-atom : tie.Need-enum-known-atom
-enum-known-atom c = search needs
+enum-known-name : tie.Need-enum-known-name
+enum-known-name c = search needs
 
 put-row-requires : tie.Need-put-row-requires
 put-row-requires c κs = search needs
@@ -50,67 +46,73 @@ put-row-requires c κs = search needs
 add-t26 : tie.Need-add-t26
 add-t26 c = search needs
 
-enum-known-atom-2 : tie.Need-enum-known-atom-2
-enum-known-atom-2 c = search needs
+enum-told : tie.Need-enum-told
+enum-told c = search needs
+
+constant-at-requires : tie.Need-constant-at-requires
+constant-at-requires c κs = search needs
+
+enum-told-2 : tie.Need-enum-told-2
+enum-told-2 c = search needs
+
+enum-known-number : tie.Need-enum-known-number
+enum-known-number c = search needs
 
 put-row-requires-2 : tie.Need-put-row-requires-2
 put-row-requires-2 c κs = search needs
 
-add-t30 : tie.Need-add-t30
-add-t30 c = search needs
+add-t31 : tie.Need-add-t31
+add-t31 c = search needs
 
 returns-2 : tie.Need-returns-2
 returns-2 c =
-    let atom = c .before .before in
-    let key = atom .before .before in
-    let parted = key .before .before in
-    let at = parted .before in
-    let start = at .before .before in
-    unbegun (start .pre .0) (at .word-at .ensures) (parted .word-part .ensures) (start .pre .1)
-    (sym (key .is-key .ensures) ∙ atom .before .if1 .left) (sym (atom .atom-of .ensures) ∙ c .enum-told .given .1)
+    let known = c .before .before .before in
+    let named = known .before .before in
+    let started = named .before .before .before .before in
+    let start = started .before .before in
+    begun-variable (start .pre .0) (started .start-at .ensures) (start .pre .1) (named .variable-at .ensures) (known .name .given .1) (c .put-row .ensures)
 
 returns-3 : tie.Need-returns-3
 returns-3 c =
-    let told = c .before .before .before in
-    let atom = told .before .before in
-    let key = atom .before .before in
-    let parted = key .before .before in
-    let at = parted .before in
-    let start = at .before .before in
-    constant-put (start .pre .0) (at .word-at .ensures) (parted .word-part .ensures) (start .pre .1)
-    (c .put-row .ensures) (sym (atom .atom-of .ensures) ∙ told .atom .given .1)
+    let numbered = c .before .before in
+    let unnamed = numbered .before in
+    let named = unnamed .before .before in
+    let other = named .before in
+    let started = other .before .before .before in
+    let start = started .before .before in
+    begun-nothing (start .pre .0) (started .start-at .ensures) (start .pre .1) (other .before .is-word .ensures .0) (other .if1 .left)
+    (named .variable-at .ensures) (unnamed .enum-told .given .1) (numbered .constant-at .ensures) (c .enum-told2 .given .1)
 
 returns-4 : tie.Need-returns-4
 returns-4 c =
-    let told = c .before .before .before in
-    let atom = told .before .before in
-    let key = atom .before .before in
-    let parted = key .before .before in
-    let at = parted .before in
-    let start = at .before .before in
-    variable-put (start .pre .0) (at .word-at .ensures) (parted .word-part .ensures) (start .pre .1)
-    (c .put-row2 .ensures) (sym (atom .atom-of .ensures) ∙ told .atom2 .given .1)
+    let known = c .before .before .before in
+    let numbered = known .before .before in
+    let started = numbered .before .before .before .before .before .before .before in
+    let start = started .before .before in
+    begun-constant (start .pre .0) (started .start-at .ensures) (start .pre .1) (numbered .constant-at .ensures) (known .number .given .1) (c .put-row2 .ensures)
 
 pub begin-spec : {M : Type 1} → statement M
 begin-spec =
     tie.close
     (tie.spec
-    word-at-requires
-    word-part-requires
-    slice-aggregate-is-key
-    is-key-requires
+    start-at-requires
+    slice-aggregate-is-word
+    is-word-requires
     mul-held
     element-write-held
     add-t18
+    add-t19
     returns
-    atom-of-requires
-    enum-told
-    enum-known-atom
+    variable-at-requires
+    enum-known-name
     put-row-requires
     add-t26
-    enum-known-atom-2
+    enum-told
+    constant-at-requires
+    enum-told-2
+    enum-known-number
     put-row-requires-2
-    add-t30
+    add-t31
     returns-2
     returns-3
     returns-4)

@@ -1,20 +1,25 @@
 -- `reader::expressions::go_on` meets its contract. Assumes nothing.
 use native.Mathlib.Omega.{arith}
-use mathlib.Core.Path.{refl, sym, _∙_}
+use mathlib.Core.Path.{refl}
 use borrow.Author.Tests.{not-true, not-false}
 use borrow.Author.Needs.{needs}
-use Rattle.reader.proofs.TurnLaws.{sign-most, signed, unsigned, closed, unclosed}
+use Rattle.reader.proofs.TurnLaws.{over-few, over-sign, over-unsigned, over-closing, over-unclosed}
 use Rattle.reader.proofs.expressions.go_on.Statement.{statement}
 use Rattle.reader.proofs.expressions.go_on.Tie as tie
+
+-- where the innermost parenthesis is looked at
+module _ (c : tie.After-entry) where
+  abbrev started : tie.After-start-at
+  started = c .before .before
+
+  abbrev start : tie.Start
+  start = started .before .before .before .before
 
 returns : tie.Need-returns
 returns c = search needs
 
-word-at-requires : tie.Need-word-at-requires
-word-at-requires c κs = search needs
-
-word-part-requires : tie.Need-word-part-requires
-word-part-requires c κs = search needs
+start-at-requires : tie.Need-start-at-requires
+start-at-requires c κs = search needs
 
 sub-last : tie.Need-sub-last
 sub-last c = search needs
@@ -25,29 +30,30 @@ mul-entry c = search needs
 element-copy-out-entry : tie.Need-element-copy-out-entry
 element-copy-out-entry c = search needs
 
-sign-of-requires : tie.Need-sign-of-requires
-sign-of-requires c κs = search needs
+sign-at-requires : tie.Need-sign-at-requires
+sign-at-requires c κs = started (c .before) .start-at .ensures .inside
 
 returns-2 : tie.Need-returns-2
 returns-2 c =
     let sign = c .before in
     let test = sign .before in
-    let parted = test .before .before .before in
-    let at = parted .before in
-    let start = at .before .before .before .before in
-    unsigned (start .pre .0) (at .word-at .ensures) (parted .word-part .ensures) (start .pre .1) (at .before .if1 .left)
-    (test .if2 .taken) (sym (sign .sign-of .ensures) ∙ c .if3 .taken)
+    let here = test .before in
+    over-unsigned (start here .pre .0) (started here .start-at .ensures) (start here .pre .1) (started here .before .if1 .left)
+    (test .if2 .taken) (sign .sign-at .ensures .0) (c .if3 .taken)
 
 sub-entry-of : tie.Need-sub-entry-of
 sub-entry-of c =
-    let start = c .before .before .before .before .before .before .before .before .before .before in
-    omega (arith, start .pre .0 .some (start .pre .1))
+    let here = c .before .before .before in
+    omega (arith, start here .pre .0 .some (start here .pre .1))
 
 entry-of-requires : tie.Need-entry-of-requires
 entry-of-requires c κs =
     let sign = c .before in
-    let start = sign .before .before .before .before .before .before .before .before .before in
-    (omega (arith, start .pre .0 .few, start .pre .0 .inside, start .pre .0 .short), sign-most _ (sign .sign-of .ensures) (c .if3 .left))
+    let here = sign .before .before in
+    let ready = start here .pre .0 in (
+      omega (arith, ready .few, ready .inside, ready .short),
+      over-few ready (started here .start-at .ensures) (start here .pre .1) (started here .before .if1 .left) (sign .sign-at .ensures .0) (c .if3 .left),
+    )
 
 mul-held : tie.Need-mul-held
 mul-held c = search needs
@@ -55,35 +61,34 @@ mul-held c = search needs
 element-write-held : tie.Need-element-write-held
 element-write-held c = search needs
 
-add-t23 : tie.Need-add-t23
-add-t23 c = search needs
+add-t20 : tie.Need-add-t20
+add-t20 c = omega (arith, c .before .before .sign-at .ensures .1 (c .before .if3 .left))
+
+add-t21 : tie.Need-add-t21
+add-t21 c = search needs
 
 returns-3 : tie.Need-returns-3
 returns-3 c =
     let other = c .before in
     let sign = other .before in
     let test = sign .before in
-    let parted = test .before .before .before in
-    let at = parted .before in
-    let start = at .before .before .before .before in
-    signed (start .pre .0) (at .word-at .ensures) (parted .word-part .ensures) (start .pre .1) (at .before .if1 .left)
-    (test .if2 .taken) (sign .sign-of .ensures) (other .if3 .left) (c .entry-of .ensures)
+    let here = test .before in
+    over-sign (start here .pre .0) (started here .start-at .ensures) (start here .pre .1) (started here .before .if1 .left)
+    (test .if2 .taken) (sign .sign-at .ensures .0) (other .if3 .left) (c .entry-of .ensures)
 
-slice-aggregate-is-key : tie.Need-slice-aggregate-is-key
-slice-aggregate-is-key c = search needs
+slice-aggregate-is-word : tie.Need-slice-aggregate-is-word
+slice-aggregate-is-word c = search needs
 
-is-key-requires : tie.Need-is-key-requires
-is-key-requires c κs = search needs
+is-word-requires : tie.Need-is-word-requires
+is-word-requires c κs = started (c .before .before) .start-at .ensures .inside
 
 returns-4 : tie.Need-returns-4
 returns-4 c =
     let key = c .before in
     let test = key .before .before in
-    let parted = test .before .before .before in
-    let at = parted .before in
-    let start = at .before .before .before .before in
-    unclosed (start .pre .0) (at .word-at .ensures) (parted .word-part .ensures) (start .pre .1) (at .before .if1 .left)
-    (test .if2 .left) (sym (key .is-key .ensures) ∙ not-true (key .is-key .result) (c .if4 .taken))
+    let here = test .before in
+    over-unclosed (start here .pre .0) (started here .start-at .ensures) (start here .pre .1) (started here .before .if1 .left)
+    (test .if2 .left) (key .is-word .ensures .0) (not-true (key .is-word .result) (c .if4 .taken))
 
 sub-put-row : tie.Need-sub-put-row
 sub-put-row c = search needs
@@ -93,50 +98,54 @@ sub-put-row-2 c = search needs
 
 sub-put-row-3 : tie.Need-sub-put-row-3
 sub-put-row-3 c =
-    let start = c .before .before .before .before .before .before .before .before .before .before .before .before in
-    omega (arith, start .pre .0 .some (start .pre .1))
+    let here = c .before .before .before .before .before in
+    omega (arith, start here .pre .0 .some (start here .pre .1))
 
 put-row-requires : tie.Need-put-row-requires
 put-row-requires c κs = search needs
 
-add-t19 : tie.Need-add-t19
-add-t19 c = search needs
+add-t12 : tie.Need-add-t12
+add-t12 c =
+    let other = c .before .before in
+    omega (arith, other .before .is-word .ensures .1 (not-false (other .before .is-word .result) (other .if4 .left)))
+
+add-t33 : tie.Need-add-t33
+add-t33 c = search needs
 
 returns-5 : tie.Need-returns-5
 returns-5 c =
     let other = c .before .before in
     let key = other .before in
     let test = key .before .before in
-    let parted = test .before .before .before in
-    let at = parted .before in
-    let start = at .before .before .before .before in
-    closed (start .pre .0) (at .word-at .ensures) (parted .word-part .ensures) (start .pre .1) (at .before .if1 .left)
-    (c .put-row .ensures) refl (test .if2 .left) (sym (key .is-key .ensures) ∙ not-false (key .is-key .result) (other .if4 .left))
+    let here = test .before in
+    over-closing (start here .pre .0) (started here .start-at .ensures) (start here .pre .1) (started here .before .if1 .left)
+    (c .put-row .ensures) refl (test .if2 .left) (key .is-word .ensures .0) (not-false (key .is-word .result) (other .if4 .left))
 
 pub go-on-spec : {M : Type 1} → statement M
 go-on-spec =
     tie.close
     (tie.spec
     returns
-    word-at-requires
-    word-part-requires
+    start-at-requires
     sub-last
     mul-entry
     element-copy-out-entry
-    sign-of-requires
+    sign-at-requires
     returns-2
     sub-entry-of
     entry-of-requires
     mul-held
     element-write-held
-    add-t23
+    add-t20
+    add-t21
     returns-3
-    slice-aggregate-is-key
-    is-key-requires
+    slice-aggregate-is-word
+    is-word-requires
     returns-4
     sub-put-row
     sub-put-row-2
     sub-put-row-3
     put-row-requires
-    add-t19
+    add-t12
+    add-t33
     returns-5)

@@ -34,7 +34,7 @@ use Rattle.reader.proofs.statements.+read_block+read_if+read_statement+
 use Rattle.reader.proofs.expressions.read_expression.Reads as read-expression-reads
 use Rattle.reader.proofs.put.put_row.Reads as put-row-reads
 use Rattle.reader.proofs.statements.ended.Reads as ended-reads
-use Rattle.reader.proofs.statements.expect.Reads as expect-reads
+use Rattle.reader.proofs.words.expect.Reads as expect-reads
 use Rattle.reader.proofs.statements.read_output.Reads as read-output-reads
 use Rattle.reader.proofs.statements.read_set.Reads as read-set-reads
 use Rattle.spans.proofs.is_key.Reads as is-key-reads

@@ -1,4 +1,4 @@
--- `reader::statements::expect` meets its contract.
+-- `reader::words::expect` meets its contract.
 use native.Mathlib.Omega.{arith}
 use mathlib.Core.Path.{refl, subst}
 use denote.Ref.{now}
@@ -6,8 +6,8 @@ use borrow.Author.Needs.{needs}
 use Rattle.spans.proofs.WordLaws.{cut-begun, cut-found}
 use Rattle.reader.specs.Statements.{Led}
 use Rattle.reader.proofs.PlaceLaws.{led-key, missing-key}
-use Rattle.reader.proofs.statements.expect.Statement.{statement}
-use Rattle.reader.proofs.statements.expect.Tie as tie
+use Rattle.reader.proofs.words.expect.Statement.{statement}
+use Rattle.reader.proofs.words.expect.Tie as tie
 
 start-at-requires : tie.Need-start-at-requires
 start-at-requires c κs = search needs

@@ -1,4 +1,4 @@
--- `reader::statements::is_word` meets its contract. Assumes nothing.
+-- `reader::words::is_word` meets its contract. Assumes nothing.
 use Prim.Native.Nat.{_+_, _≤_}
 use native.Mathlib.Omega.{arith}
 use mathlib.Core.Bool.{true, true≢false}
@@ -10,8 +10,8 @@ use borrow.Author.Tests.{not-true, not-false}
 use Rattle.language.specs.Tokens.{same}
 use Rattle.spans.specs.Cut.{part}
 use Rattle.reader.proofs.StartLaws.{word-short, word-other, word-goes-on, word-single}
-use Rattle.reader.proofs.statements.is_word.Statement.{statement}
-use Rattle.reader.proofs.statements.is_word.Tie as tie
+use Rattle.reader.proofs.words.is_word.Statement.{statement}
+use Rattle.reader.proofs.words.is_word.Tie as tie
 
 sub-if1 : tie.Need-sub-if1
 sub-if1 c = search needs
