@@ -1,21 +1,22 @@
 -- The places of a text: how the words from one place on go on from another, the word that stands at one, and where no recipe goes on.
-use Prim.Native.Nat.{ℕ, _-_, _<_}
+use Prim.Native.Nat.{ℕ, _+_, _-_, _<_}
 use native.Mathlib.Omega.{arith}
 use mathlib.Core.Bool.{Bool, true, false}
 use mathlib.Core.List.{List, [], _∷_, _++_, append-assoc}
 use mathlib.Core.Logic.{_⊎_, inl, inr}
-use mathlib.Core.Path.{_≡_, refl, sym, ap, _∙_}
+use mathlib.Core.Path.{_≡_, refl, sym, ap, subst, _∙_}
 use lib.Dec.{ltb}
-use lib.ListN.{take, drop}
+use lib.ListN.{length, take, drop}
 use borrow.Author.Tests.{ltb-true, ltb-false, eq-eqb}
 use Rattle.language.specs.Words.{Word}
 use Rattle.language.specs.Tokens as word
 use Rattle.language.specs.Tokens.{Token, fixed, same, counted, among, tokenOf, tokens}
-use Rattle.spans.specs.Cut.{from, part, Cut}
+use Rattle.spans.specs.Cut.{from, part, Begun, Cut}
 use Rattle.spans.specs.declared.Span.{Span}
+use Rattle.spans.proofs.WordLaws.{cut-begun, cut-found}
 use Rattle.reader.specs.Machine.{tag, isWord, Symbol, exactly, Advance, stop, expected, advance, mayEnd, endsAt, ended, onward, stuck, run}
 use Rattle.reader.specs.Steps.{Later, Missing, Stuck}
-use Rattle.reader.specs.Statements.{Spells, Led}
+use Rattle.reader.specs.Statements.{Compared, Spells, Led}
 use Rattle.reader.proofs.Clash.{clash}
 
 pub later-self : {text : List ℕ} {at : ℕ} → Later text at at
@@ -92,6 +93,18 @@ module _ {text : List ℕ} {at : ℕ} {s : Span} (c : Cut text at s) where
       → Missing text at t
   missing-key {key} {t = t} is told no′ k first later e =
       ap (isWord t) (cut-token first later e) ∙ sym (k .told _) ∙ ap (same key) (sym is) ∙ sym told ∙ no′
+
+-- the word that starts at a place, from an earlier place on, where it was compared with a key
+module _ {text key : List ℕ} {at start : ℕ} {r : Bool} {t : Token} (begun : Begun text at start) (k : Spells key t) (compared : Compared text start key r) where
+  told-word :
+      (r ≡ same key (part text (cut-found begun .0 .start) (cut-found begun .0 .end))) × (r ≡ true → cut-found begun .0 .end ≡ start + length key)
+  told-word = compared (k .one) (begun .shown) (cut-found begun .0) (cut-found begun .1)
+
+  pub led-start : r ≡ true → Led text at t (start + length key)
+  led-start yes′ = subst (Led text at t) (told-word .1 yes′) (led-key (cut-begun begun (cut-found begun .1)) refl (told-word .0) yes′ k)
+
+  pub missing-start : r ≡ false → Missing text at t
+  missing-start no′ = missing-key (cut-begun begun (cut-found begun .1)) refl (told-word .0) no′ k
 
 -- ---- where no recipe goes on
 

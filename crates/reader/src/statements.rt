@@ -13,11 +13,9 @@ use crate::put::WHILE;
 use crate::put::put_row;
 use crate::words::Found;
 use crate::words::expect;
+use crate::words::is_word;
 use rules::TABLE_WORDS;
-use spans::is_key;
 use spans::start_at;
-use spans::word_at;
-use spans::word_part;
 ghost use mathlib.Core.List.{[], _∷_};
 ghost use mathlib.Core.Path.{_≡_};
 ghost use lib.ListN.{length};
@@ -214,31 +212,28 @@ pub fn read_statement(
         Stepped statements (statement ∷ []) (now (text .entry)) from count (now (rows .entry)) r (now (rows .exit))
         × (length (now (held .exit)) ≡ mostHeld) ⌝ }
 {
-    let w = word_at(text, from);
-    let start = w.start;
-    let end = w.end;
-    let word = word_part(text, start, end);
-    if is_key(word, b"skip") {
+    let start = start_at(text, from);
+    if is_word(text, start, b"skip") {
         put_row(rows, count, SKIP, 0, 0, 0);
         return Step::Next {
-            at: end,
+            at: start + 4,
             count: count + 1,
         };
     }
-    if is_key(word, b"set") {
-        return read_set(text, end, count, rows, held);
+    if is_word(text, start, b"set") {
+        return read_set(text, start + 3, count, rows, held);
     }
-    if is_key(word, b"if") {
-        return read_if(text, end, count, rows, held);
+    if is_word(text, start, b"if") {
+        return read_if(text, start + 2, count, rows, held);
     }
-    if is_key(word, b"while") {
-        return read_while(text, end, count, rows, held);
+    if is_word(text, start, b"while") {
+        return read_while(text, start + 5, count, rows, held);
     }
-    if is_key(word, b"settled") {
-        return read_output(text, end, count, SETTLED, rows, held);
+    if is_word(text, start, b"settled") {
+        return read_output(text, start + 7, count, SETTLED, rows, held);
     }
-    if is_key(word, b"provisional") {
-        return read_output(text, end, count, PROVISIONAL, rows, held);
+    if is_word(text, start, b"provisional") {
+        return read_output(text, start + 11, count, PROVISIONAL, rows, held);
     }
     Step::Faulty(from)
 }

@@ -2,7 +2,6 @@
 use spans::is_joined;
 use spans::is_key;
 use spans::start_at;
-use spans::word_part;
 ghost use mathlib.Core.Bool.{true};
 ghost use mathlib.Core.Path.{_≡_};
 ghost use Prim.Native.Nat.{_+_, _≤_};
@@ -25,7 +24,7 @@ pub fn is_word(text: &[u8], at: usize, key: &[u8]) -> bool
         return false;
     }
     let next = at + key.len();
-    if !is_key(word_part(text, at, next), key) {
+    if !is_key(&text[at..next], key) {
         return false;
     }
     if is_joined(key, 0) {

@@ -13,9 +13,9 @@ use Rattle.language.specs.Tokens.{Token, same}
 use Rattle.reader.specs.Machine.{atElse, atEnd, expr, statement, exactly, rest}
 use Rattle.reader.specs.Steps.{Missing, expressions, statements, blocks, Asked, Read, Stepped, Over}
 use Rattle.reader.specs.declared.expressions.Step.{Step}
-use Rattle.reader.specs.Statements.{Spells, Led, Outputs}
+use Rattle.reader.specs.Statements.{Compared, Spells, Led, Outputs}
 use Rattle.reader.proofs.SpellLaws.{spells-skip, spells-set, spells-if, spells-then, spells-else, spells-end, spells-while, spells-doing, spells-settled, spells-provisional, spells-semicolon}
-use Rattle.reader.proofs.PlaceLaws.{led-key, missing-key, stuck-more}
+use Rattle.reader.proofs.PlaceLaws.{led-start, missing-start, stuck-more}
 use Rattle.reader.proofs.StatementLaws.{endedBy, asked-on, asked-after, with-else, with-end, stuck-statement, stuck-tested, stuck-if, stuck-chosen, stuck-while, stuck-semicolon, lacks-statement, test-ended, block-ended, skip-read, if-read, while-read, one-read, more-read}
 use borrow.Fn.Kinds.{In}
 use borrow.Fn.PlainCycle.{Measures, is, falls, and}
@@ -37,9 +37,8 @@ use Rattle.reader.proofs.statements.ended.Reads as ended-reads
 use Rattle.reader.proofs.words.expect.Reads as expect-reads
 use Rattle.reader.proofs.statements.read_output.Reads as read-output-reads
 use Rattle.reader.proofs.statements.read_set.Reads as read-set-reads
-use Rattle.spans.proofs.is_key.Reads as is-key-reads
-use Rattle.spans.proofs.word_at.Reads as word-at-reads
-use Rattle.spans.proofs.word_part.Reads as word-part-reads
+use Rattle.reader.proofs.words.is_word.Reads as is-word-reads
+use Rattle.spans.proofs.start_at.Reads as start-at-reads
 use Rattle.reader.proofs.statements.+read_block+read_if+read_statement+read_while as cycle
 use Rattle.reader.proofs.statements.+read_block+read_if+read_statement+read_while.Tie.{
   close,
@@ -121,12 +120,10 @@ read-if-calls t = (
 
 abbrev read-statement-calls : ℕ → read-statement-lts.Claims
 read-statement-calls t = (
-  word-at-reads.Asked,
-  word-at-reads.Learnt,
-  word-part-reads.Asked,
-  word-part-reads.Learnt,
-  is-key-reads.Asked,
-  is-key-reads.Learnt,
+  start-at-reads.Asked,
+  start-at-reads.Learnt,
+  is-word-reads.Asked,
+  is-word-reads.Learnt,
   put-row-reads.Asked,
   put-row-reads.Learnt,
   read-set-reads.Asked,
@@ -503,38 +500,40 @@ read-if-returns-4 t c =
 -- ---- read_statement
 
 -- the word, where it is this key or another one
-module _ (t : ℕ) (c : read-statement-lts.After-word-part (read-statement-calls t) (read-statement-at t) read-statement.Post) where
+module _ (t : ℕ) (c : read-statement-lts.After-start-at (read-statement-calls t) (read-statement-at t) read-statement.Post) where
   abbrev statement-start : read-statement-lts.Start (read-statement-calls t) (read-statement-at t) read-statement.Post
-  statement-start = c .before .before .before
+  statement-start = c .before .before
 
   statement-led :
-      {key : List ℕ} {b : Bool} {first : Token} → b ≡ same key (now (c .word-part .result)) → b ≡ true → Spells key first
-      → Led (now (statement-start .args .text)) (statement-start .args .from) first (c .before .word-at .result .end)
-  statement-led = led-key (c .before .word-at .ensures) (c .word-part .ensures)
+      {key : List ℕ} {r : Bool} {first : Token} → Compared (now (statement-start .args .text)) (c .start-at .result) key r → r ≡ true → Spells key first
+      → Led (now (statement-start .args .text)) (statement-start .args .from) first (c .start-at .result + length key)
+  statement-led compared yes′ k = led-start (c .start-at .ensures) k compared yes′
 
   statement-missing :
-      {key : List ℕ} {b : Bool} {first : Token} → b ≡ same key (now (c .word-part .result)) → b ≡ false → Spells key first
+      {key : List ℕ} {r : Bool} {first : Token} → Compared (now (statement-start .args .text)) (c .start-at .result) key r → r ≡ false → Spells key first
       → Missing (now (statement-start .args .text)) (statement-start .args .from) first
-  statement-missing = missing-key (c .before .word-at .ensures) (c .word-part .ensures)
+  statement-missing compared no′ k = missing-start (c .start-at .ensures) k compared no′
 
-read-statement-word-at-requires : (t : ℕ) → read-statement-lts.Need-word-at-requires (read-statement-calls t) (read-statement-at t) read-statement.Post
-read-statement-word-at-requires t c κs = search needs
+read-statement-start-at-requires : (t : ℕ) → read-statement-lts.Need-start-at-requires (read-statement-calls t) (read-statement-at t) read-statement.Post
+read-statement-start-at-requires t c κs = search needs
 
-read-statement-word-part-requires : (t : ℕ) → read-statement-lts.Need-word-part-requires (read-statement-calls t) (read-statement-at t) read-statement.Post
-read-statement-word-part-requires t c κs = search needs
+read-statement-slice-aggregate-is-word : (t : ℕ) → read-statement-lts.Need-slice-aggregate-is-word (read-statement-calls t) (read-statement-at t) read-statement.Post
+read-statement-slice-aggregate-is-word t c = search needs
 
-read-statement-slice-aggregate-is-key : (t : ℕ) → read-statement-lts.Need-slice-aggregate-is-key (read-statement-calls t) (read-statement-at t) read-statement.Post
-read-statement-slice-aggregate-is-key t c = search needs
-
-read-statement-is-key-requires : (t : ℕ) → read-statement-lts.Need-is-key-requires (read-statement-calls t) (read-statement-at t) read-statement.Post
-read-statement-is-key-requires t c κs = search needs
+read-statement-is-word-requires : (t : ℕ) → read-statement-lts.Need-is-word-requires (read-statement-calls t) (read-statement-at t) read-statement.Post
+read-statement-is-word-requires t c κs = c .before .start-at .ensures .inside
 
 read-statement-put-row-requires : (t : ℕ) → read-statement-lts.Need-put-row-requires (read-statement-calls t) (read-statement-at t) read-statement.Post
 read-statement-put-row-requires t c κs =
     statement-start t (c .before .before .before .before) .pre .1 .0 .long
 
-read-statement-add-t21 : (t : ℕ) → read-statement-lts.Need-add-t21 (read-statement-calls t) (read-statement-at t) read-statement.Post
-read-statement-add-t21 t c =
+read-statement-add-t18 : (t : ℕ) → read-statement-lts.Need-add-t18 (read-statement-calls t) (read-statement-at t) read-statement.Post
+read-statement-add-t18 t c =
+    let taken = c .before .before in
+    omega (arith, taken .before .is-word .ensures .1 (taken .if1 .taken))
+
+read-statement-add-t19 : (t : ℕ) → read-statement-lts.Need-add-t19 (read-statement-calls t) (read-statement-at t) read-statement.Post
+read-statement-add-t19 t c =
     let a = statement-start t (c .before .before .before .before .before) .pre .1 .0 in
     omega (arith, a .inside, a .short, a .few)
 
@@ -542,118 +541,133 @@ read-statement-returns : (t : ℕ) → read-statement-lts.Need-returns (read-sta
 read-statement-returns t c =
     let asked = c .before .before .before in
     let here = asked .before .before in (
-      skip-read (statement-led t here (asked .is-key .ensures) (c .before .before .if1 .taken) spells-skip) (c .put-row .ensures),
+      skip-read (statement-led t here (asked .is-word .ensures .0) (c .before .before .if1 .taken) spells-skip) (c .put-row .ensures),
       statement-start t here .pre .1 .1,
     )
 
-read-statement-slice-aggregate-is-key-2 :
-    (t : ℕ) → read-statement-lts.Need-slice-aggregate-is-key-2 (read-statement-calls t) (read-statement-at t) read-statement.Post
-read-statement-slice-aggregate-is-key-2 t c = search needs
+read-statement-slice-aggregate-is-word-2 :
+    (t : ℕ) → read-statement-lts.Need-slice-aggregate-is-word-2 (read-statement-calls t) (read-statement-at t) read-statement.Post
+read-statement-slice-aggregate-is-word-2 t c = search needs
 
-read-statement-is-key-requires-2 : (t : ℕ) → read-statement-lts.Need-is-key-requires-2 (read-statement-calls t) (read-statement-at t) read-statement.Post
-read-statement-is-key-requires-2 t c κs = search needs
+read-statement-is-word-requires-2 : (t : ℕ) → read-statement-lts.Need-is-word-requires-2 (read-statement-calls t) (read-statement-at t) read-statement.Post
+read-statement-is-word-requires-2 t c κs = c .before .before .before .before .start-at .ensures .inside
+
+read-statement-add-read-set : (t : ℕ) → read-statement-lts.Need-add-read-set (read-statement-calls t) (read-statement-at t) read-statement.Post
+read-statement-add-read-set t c = omega (arith, c .before .is-word2 .ensures .1 (c .if2 .taken))
 
 read-statement-read-set-requires : (t : ℕ) → read-statement-lts.Need-read-set-requires (read-statement-calls t) (read-statement-at t) read-statement.Post
 read-statement-read-set-requires t c κs =
     let asked = c .before .before .before in
     let here = asked .before .before .before .before .before in
     let start = statement-start t here in
-    let w = statement-led t here (asked .is-key2 .ensures) (c .before .before .if2 .taken) spells-set in
+    let w = statement-led t here (asked .is-word2 .ensures .0) (c .before .before .if2 .taken) spells-set in
     (asked-after (start .pre .1 .0) w, start .pre .1 .1)
 
 read-statement-returns-2 : (t : ℕ) → read-statement-lts.Need-returns-2 (read-statement-calls t) (read-statement-at t) read-statement.Post
 read-statement-returns-2 t c =
     let asked = c .before .before .before .before in
     let here = asked .before .before .before .before .before in
-    let w = statement-led t here (asked .is-key2 .ensures) (c .before .before .before .if2 .taken) spells-set in
+    let w = statement-led t here (asked .is-word2 .ensures .0) (c .before .before .before .if2 .taken) spells-set in
     (c .read-set .ensures .0 _ w, c .read-set .ensures .1)
 
-read-statement-slice-aggregate-is-key-3 :
-    (t : ℕ) → read-statement-lts.Need-slice-aggregate-is-key-3 (read-statement-calls t) (read-statement-at t) read-statement.Post
-read-statement-slice-aggregate-is-key-3 t c = search needs
+read-statement-slice-aggregate-is-word-3 :
+    (t : ℕ) → read-statement-lts.Need-slice-aggregate-is-word-3 (read-statement-calls t) (read-statement-at t) read-statement.Post
+read-statement-slice-aggregate-is-word-3 t c = search needs
 
-read-statement-is-key-requires-3 : (t : ℕ) → read-statement-lts.Need-is-key-requires-3 (read-statement-calls t) (read-statement-at t) read-statement.Post
-read-statement-is-key-requires-3 t c κs = search needs
+read-statement-is-word-requires-3 : (t : ℕ) → read-statement-lts.Need-is-word-requires-3 (read-statement-calls t) (read-statement-at t) read-statement.Post
+read-statement-is-word-requires-3 t c κs = c .before .before .before .before .before .before .before .start-at .ensures .inside
+
+read-statement-add-read-if : (t : ℕ) → read-statement-lts.Need-add-read-if (read-statement-calls t) (read-statement-at t) read-statement.Post
+read-statement-add-read-if t c = omega (arith, c .before .is-word3 .ensures .1 (c .if3 .taken))
 
 read-statement-read-if-requires : (t : ℕ) → read-statement-lts.Need-read-if-requires (read-statement-calls t) (read-statement-at t) read-statement.Post
 read-statement-read-if-requires t c κs =
     let asked = c .before .before .before in
     let here = asked .before .before .before .before .before .before .before .before in
     let start = statement-start t here in
-    let w = statement-led t here (asked .is-key3 .ensures) (c .before .before .if3 .taken) spells-if in
+    let w = statement-led t here (asked .is-word3 .ensures .0) (c .before .before .if3 .taken) spells-if in
     (omega (arith, start .pre .0, w .on, w .inside), (asked-after (start .pre .1 .0) w, start .pre .1 .1))
 
 read-statement-returns-3 : (t : ℕ) → read-statement-lts.Need-returns-3 (read-statement-calls t) (read-statement-at t) read-statement.Post
 read-statement-returns-3 t c =
     let asked = c .before .before .before .before in
     let here = asked .before .before .before .before .before .before .before .before in
-    let w = statement-led t here (asked .is-key3 .ensures) (c .before .before .before .if3 .taken) spells-if in
+    let w = statement-led t here (asked .is-word3 .ensures .0) (c .before .before .before .if3 .taken) spells-if in
     (c .read-if .ensures .0 _ w, c .read-if .ensures .1)
 
-read-statement-slice-aggregate-is-key-4 :
-    (t : ℕ) → read-statement-lts.Need-slice-aggregate-is-key-4 (read-statement-calls t) (read-statement-at t) read-statement.Post
-read-statement-slice-aggregate-is-key-4 t c = search needs
+read-statement-slice-aggregate-is-word-4 :
+    (t : ℕ) → read-statement-lts.Need-slice-aggregate-is-word-4 (read-statement-calls t) (read-statement-at t) read-statement.Post
+read-statement-slice-aggregate-is-word-4 t c = search needs
 
-read-statement-is-key-requires-4 : (t : ℕ) → read-statement-lts.Need-is-key-requires-4 (read-statement-calls t) (read-statement-at t) read-statement.Post
-read-statement-is-key-requires-4 t c κs = search needs
+read-statement-is-word-requires-4 : (t : ℕ) → read-statement-lts.Need-is-word-requires-4 (read-statement-calls t) (read-statement-at t) read-statement.Post
+read-statement-is-word-requires-4 t c κs = c .before .before .before .before .before .before .before .before .before .before .start-at .ensures .inside
+
+read-statement-add-read-while : (t : ℕ) → read-statement-lts.Need-add-read-while (read-statement-calls t) (read-statement-at t) read-statement.Post
+read-statement-add-read-while t c = omega (arith, c .before .is-word4 .ensures .1 (c .if4 .taken))
 
 read-statement-read-while-requires : (t : ℕ) → read-statement-lts.Need-read-while-requires (read-statement-calls t) (read-statement-at t) read-statement.Post
 read-statement-read-while-requires t c κs =
     let asked = c .before .before .before in
     let here = asked .before .before .before .before .before .before .before .before .before .before .before in
     let start = statement-start t here in
-    let w = statement-led t here (asked .is-key4 .ensures) (c .before .before .if4 .taken) spells-while in
+    let w = statement-led t here (asked .is-word4 .ensures .0) (c .before .before .if4 .taken) spells-while in
     (omega (arith, start .pre .0, w .on, w .inside), (asked-after (start .pre .1 .0) w, start .pre .1 .1))
 
 read-statement-returns-4 : (t : ℕ) → read-statement-lts.Need-returns-4 (read-statement-calls t) (read-statement-at t) read-statement.Post
 read-statement-returns-4 t c =
     let asked = c .before .before .before .before in
     let here = asked .before .before .before .before .before .before .before .before .before .before .before in
-    let w = statement-led t here (asked .is-key4 .ensures) (c .before .before .before .if4 .taken) spells-while in
+    let w = statement-led t here (asked .is-word4 .ensures .0) (c .before .before .before .if4 .taken) spells-while in
     (c .read-while .ensures .0 _ w, c .read-while .ensures .1)
 
-read-statement-slice-aggregate-is-key-5 :
-    (t : ℕ) → read-statement-lts.Need-slice-aggregate-is-key-5 (read-statement-calls t) (read-statement-at t) read-statement.Post
-read-statement-slice-aggregate-is-key-5 t c = search needs
+read-statement-slice-aggregate-is-word-5 :
+    (t : ℕ) → read-statement-lts.Need-slice-aggregate-is-word-5 (read-statement-calls t) (read-statement-at t) read-statement.Post
+read-statement-slice-aggregate-is-word-5 t c = search needs
 
-read-statement-is-key-requires-5 : (t : ℕ) → read-statement-lts.Need-is-key-requires-5 (read-statement-calls t) (read-statement-at t) read-statement.Post
-read-statement-is-key-requires-5 t c κs = search needs
+read-statement-is-word-requires-5 : (t : ℕ) → read-statement-lts.Need-is-word-requires-5 (read-statement-calls t) (read-statement-at t) read-statement.Post
+read-statement-is-word-requires-5 t c κs = c .before .before .before .before .before .before .before .before .before .before .before .before .before .start-at .ensures .inside
+
+read-statement-add-read-output : (t : ℕ) → read-statement-lts.Need-add-read-output (read-statement-calls t) (read-statement-at t) read-statement.Post
+read-statement-add-read-output t c = omega (arith, c .before .is-word5 .ensures .1 (c .if5 .taken))
 
 read-statement-read-output-requires : (t : ℕ) → read-statement-lts.Need-read-output-requires (read-statement-calls t) (read-statement-at t) read-statement.Post
 read-statement-read-output-requires t c κs =
     let asked = c .before .before .before in
     let here = asked .before .before .before .before .before .before .before .before .before .before .before .before .before .before in
     let start = statement-start t here in
-    let w = statement-led t here (asked .is-key5 .ensures) (c .before .before .if5 .taken) spells-settled in
+    let w = statement-led t here (asked .is-word5 .ensures .0) (c .before .before .if5 .taken) spells-settled in
     (asked-after (start .pre .1 .0) w, start .pre .1 .1)
 
 read-statement-returns-5 : (t : ℕ) → read-statement-lts.Need-returns-5 (read-statement-calls t) (read-statement-at t) read-statement.Post
 read-statement-returns-5 t c =
     let asked = c .before .before .before .before in
     let here = asked .before .before .before .before .before .before .before .before .before .before .before .before .before .before in
-    let w = statement-led t here (asked .is-key5 .ensures) (c .before .before .before .if5 .taken) spells-settled in
+    let w = statement-led t here (asked .is-word5 .ensures .0) (c .before .before .before .if5 .taken) spells-settled in
     (c .read-output .ensures .0 word.settled Outputs.settled _ w, c .read-output .ensures .1)
 
-read-statement-slice-aggregate-is-key-6 :
-    (t : ℕ) → read-statement-lts.Need-slice-aggregate-is-key-6 (read-statement-calls t) (read-statement-at t) read-statement.Post
-read-statement-slice-aggregate-is-key-6 t c = search needs
+read-statement-slice-aggregate-is-word-6 :
+    (t : ℕ) → read-statement-lts.Need-slice-aggregate-is-word-6 (read-statement-calls t) (read-statement-at t) read-statement.Post
+read-statement-slice-aggregate-is-word-6 t c = search needs
 
-read-statement-is-key-requires-6 : (t : ℕ) → read-statement-lts.Need-is-key-requires-6 (read-statement-calls t) (read-statement-at t) read-statement.Post
-read-statement-is-key-requires-6 t c κs = search needs
+read-statement-is-word-requires-6 : (t : ℕ) → read-statement-lts.Need-is-word-requires-6 (read-statement-calls t) (read-statement-at t) read-statement.Post
+read-statement-is-word-requires-6 t c κs = c .before .before .before .before .before .before .before .before .before .before .before .before .before .before .before .before .start-at .ensures .inside
+
+read-statement-add-read-output-2 : (t : ℕ) → read-statement-lts.Need-add-read-output-2 (read-statement-calls t) (read-statement-at t) read-statement.Post
+read-statement-add-read-output-2 t c = omega (arith, c .before .is-word6 .ensures .1 (c .if6 .taken))
 
 read-statement-read-output-requires-2 : (t : ℕ) → read-statement-lts.Need-read-output-requires-2 (read-statement-calls t) (read-statement-at t) read-statement.Post
 read-statement-read-output-requires-2 t c κs =
     let asked = c .before .before .before in
     let here = asked .before .before .before .before .before .before .before .before .before .before .before .before .before .before .before .before .before in
     let start = statement-start t here in
-    let w = statement-led t here (asked .is-key6 .ensures) (c .before .before .if6 .taken) spells-provisional in
+    let w = statement-led t here (asked .is-word6 .ensures .0) (c .before .before .if6 .taken) spells-provisional in
     (asked-after (start .pre .1 .0) w, start .pre .1 .1)
 
 read-statement-returns-6 : (t : ℕ) → read-statement-lts.Need-returns-6 (read-statement-calls t) (read-statement-at t) read-statement.Post
 read-statement-returns-6 t c =
     let asked = c .before .before .before .before in
     let here = asked .before .before .before .before .before .before .before .before .before .before .before .before .before .before .before .before .before in
-    let w = statement-led t here (asked .is-key6 .ensures) (c .before .before .before .if6 .taken) spells-provisional in
+    let w = statement-led t here (asked .is-word6 .ensures .0) (c .before .before .before .if6 .taken) spells-provisional in
     (c .read-output2 .ensures .0 word.provisional Outputs.provisional _ w, c .read-output2 .ensures .1)
 
 read-statement-returns-7 : (t : ℕ) → read-statement-lts.Need-returns-7 (read-statement-calls t) (read-statement-at t) read-statement.Post
@@ -667,12 +681,12 @@ read-statement-returns-7 t c =
     let here = else1 .before .before .before in (
       (
         lacks-statement
-            (statement-missing t here (else1 .before .is-key .ensures) (else1 .if1 .left) spells-skip)
-            (statement-missing t here (else2 .before .is-key2 .ensures) (else2 .if2 .left) spells-set)
-            (statement-missing t here (else3 .before .is-key3 .ensures) (else3 .if3 .left) spells-if)
-            (statement-missing t here (else4 .before .is-key4 .ensures) (else4 .if4 .left) spells-while)
-            (statement-missing t here (else5 .before .is-key5 .ensures) (else5 .if5 .left) spells-settled)
-            (statement-missing t here (else6 .before .is-key6 .ensures) (else6 .if6 .left) spells-provisional),
+            (statement-missing t here (else1 .before .is-word .ensures .0) (else1 .if1 .left) spells-skip)
+            (statement-missing t here (else2 .before .is-word2 .ensures .0) (else2 .if2 .left) spells-set)
+            (statement-missing t here (else3 .before .is-word3 .ensures .0) (else3 .if3 .left) spells-if)
+            (statement-missing t here (else4 .before .is-word4 .ensures .0) (else4 .if4 .left) spells-while)
+            (statement-missing t here (else5 .before .is-word5 .ensures .0) (else5 .if5 .left) spells-settled)
+            (statement-missing t here (else6 .before .is-word6 .ensures .0) (else6 .if6 .left) spells-provisional),
         statement-start t here .pre .1 .0 .long,
       ),
       statement-start t here .pre .1 .1,
@@ -866,31 +880,36 @@ pub +read-block+read-if+read-statement+read-while-spec : {M : Type 1} → cycle.
     (λ t. read-statement-lts.spec (read-statement-calls t)
     (read-statement-at t)
     read-statement.Post
-    (read-statement-word-at-requires t)
-    (read-statement-word-part-requires t)
-    (read-statement-slice-aggregate-is-key t)
-    (read-statement-is-key-requires t)
+    (read-statement-start-at-requires t)
+    (read-statement-slice-aggregate-is-word t)
+    (read-statement-is-word-requires t)
     (read-statement-put-row-requires t)
-    (read-statement-add-t21 t)
+    (read-statement-add-t18 t)
+    (read-statement-add-t19 t)
     (read-statement-returns t)
-    (read-statement-slice-aggregate-is-key-2 t)
-    (read-statement-is-key-requires-2 t)
+    (read-statement-slice-aggregate-is-word-2 t)
+    (read-statement-is-word-requires-2 t)
+    (read-statement-add-read-set t)
     (read-statement-read-set-requires t)
     (read-statement-returns-2 t)
-    (read-statement-slice-aggregate-is-key-3 t)
-    (read-statement-is-key-requires-3 t)
+    (read-statement-slice-aggregate-is-word-3 t)
+    (read-statement-is-word-requires-3 t)
+    (read-statement-add-read-if t)
     (read-statement-read-if-requires t)
     (read-statement-returns-3 t)
-    (read-statement-slice-aggregate-is-key-4 t)
-    (read-statement-is-key-requires-4 t)
+    (read-statement-slice-aggregate-is-word-4 t)
+    (read-statement-is-word-requires-4 t)
+    (read-statement-add-read-while t)
     (read-statement-read-while-requires t)
     (read-statement-returns-4 t)
-    (read-statement-slice-aggregate-is-key-5 t)
-    (read-statement-is-key-requires-5 t)
+    (read-statement-slice-aggregate-is-word-5 t)
+    (read-statement-is-word-requires-5 t)
+    (read-statement-add-read-output t)
     (read-statement-read-output-requires t)
     (read-statement-returns-5 t)
-    (read-statement-slice-aggregate-is-key-6 t)
-    (read-statement-is-key-requires-6 t)
+    (read-statement-slice-aggregate-is-word-6 t)
+    (read-statement-is-word-requires-6 t)
+    (read-statement-add-read-output-2 t)
     (read-statement-read-output-requires-2 t)
     (read-statement-returns-6 t)
     (read-statement-returns-7 t))

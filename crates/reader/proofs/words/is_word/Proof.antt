@@ -26,8 +26,14 @@ returns c =
 add-next : tie.Need-add-next
 add-next c = search needs
 
-word-part-requires : tie.Need-word-part-requires
-word-part-requires c κs = search needs
+sub-is-key : tie.Need-sub-is-key
+sub-is-key c = search needs
+
+part-is-key-start : tie.Need-part-is-key-start
+part-is-key-start c = search needs
+
+part-is-key-end : tie.Need-part-is-key-end
+part-is-key-end c = search needs
 
 is-key-requires : tie.Need-is-key-requires
 is-key-requires c κs = search needs
@@ -36,7 +42,7 @@ returns-2 : tie.Need-returns-2
 returns-2 c =
     let key = c .before in
     let start = key .before .before .before .before .before in
-    let other = sym (ap (same (now (start .args .key))) (key .before .word-part .ensures)) ∙ sym (key .is-key .ensures) ∙ not-true (key .is-key .result) (c .if2 .taken) in (
+    let other = sym (key .is-key .ensures) ∙ not-true (key .is-key .result) (c .if2 .taken) in (
       (λ one shown w cut. (word-other (now (start .args .key)) one shown cut other, λ e. absurd (true≢false (sym e)))),
       λ e. absurd (true≢false (sym e)),
     )
@@ -51,7 +57,7 @@ is-whole c =
     let key = c .before in
     let room = key .before .before in
     let start = room .before .before .before in (
-      sym (ap (same (now (start .args .key))) (key .before .word-part .ensures)) ∙ sym (key .is-key .ensures) ∙ not-false (key .is-key .result) (c .if2 .left),
+      sym (key .is-key .ensures) ∙ not-false (key .is-key .result) (c .if2 .left),
       omega (arith, room .if1 .left, start .pre),
     )
 
@@ -90,7 +96,9 @@ is-word-spec =
     sub-if1
     returns
     add-next
-    word-part-requires
+    sub-is-key
+    part-is-key-start
+    part-is-key-end
     is-key-requires
     returns-2
     is-joined-requires
