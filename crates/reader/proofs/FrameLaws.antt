@@ -1,11 +1,14 @@
 -- An expression that is being read: what is to come after it, and what one word more makes of it.
 use Prim.Native.Nat.{ℕ, _+_, _-_, _*_, _/_, _%_, _≤_, _<_}
 use native.Mathlib.Omega.{arith}
-use mathlib.Core.Bool.{true, false}
+use mathlib.Core.Bool.{Bool, true, false}
 use mathlib.Core.List.{List, [], _∷_, _++_, append-assoc, append-nil}
 use mathlib.Core.Path.{_≡_, refl, sym, ap, ap₂, _∙_}
+use lib.Dec.{ltb}
 use lib.ListN.{length, getD, set, length-append}
 use lib.Seq.{getD-set-same, getD-set-other}
+use borrow.Author.Tests.{ltb-true, ltb-false}
+use Rattle.rules.specs.Limits.{mostRows}
 use Rattle.rules.specs.declared.Operator.{Operator}
 use Rattle.rules.specs.Cases.{Quad}
 use Rattle.rules.specs.Trees.{Expr, binary}
@@ -19,7 +22,7 @@ use Rattle.reader.specs.Rows.{rowPut, rowsPut}
 use Rattle.reader.specs.Statements.{Led}
 use Rattle.reader.specs.Frames.{Frame, waiting, having, framesTokens, framesSize, framesRows, framesOwed, mostHeld, Entries, Whole, nothing, just, wholeTokens, Standing}
 use Rattle.reader.specs.declared.expressions.Inside.{Inside}
-use Rattle.reader.proofs.RowLaws.{rowsPut-last, exprRows-length}
+use Rattle.reader.proofs.RowLaws.{row-beyond, rowsPut-last, exprRows-length}
 use Rattle.reader.proofs.RunLaws.{joined, run-sign, run-opening, run-expr}
 use Rattle.reader.proofs.PlaceLaws.{later-on}
 
@@ -96,6 +99,19 @@ sign-few Operator.Quotient = omega arith
 sign-few Operator.Equal = omega arith
 sign-few Operator.Less = omega arith
 
+-- a left side's row stands before its parent's, which is put nowhere where a table has no such row
+row-near : (count left o right : ℕ) (rows : List ℕ) → left < count → rowPut count (10, o, left % mostRows, right) rows ≡ rowPut count (10, o, left, right) rows
+row-near count left o right rows before = by (ltb count mostRows) refl
+  where
+    by : (b : Bool) → ltb count mostRows ≡ b → rowPut count (10, o, left % mostRows, right) rows ≡ rowPut count (10, o, left, right) rows
+    by true h =
+        let inside = ltb-true count mostRows h in
+        let same : left % mostRows ≡ left = omega arith in
+        ap (λ (n : ℕ). rowPut count (10, o, n, right) rows) same
+    by false h =
+        let beyond = ltb-false count mostRows h in
+        row-beyond count (10, o, left % mostRows, right) rows beyond ∙ sym (row-beyond count (10, o, left, right) rows beyond)
+
 -- a row more at the end
 row-more : (first count : ℕ) (quads all : List Quad) (quad : Quad) (before rows : List ℕ) → rows ≡ rowsPut first quads before → count ≡ first + length quads
     → quads ++ quad ∷ [] ≡ all → rowPut count quad rows ≡ rowsPut first all before
@@ -158,7 +174,7 @@ module _ {text : List ℕ} {at first : ℕ} {before : List ℕ} {s : Inside} {ro
 
   -- the operator after a left side
   pub sign-one : {o : Operator} {e : Expr} (last : ℕ) {entry : ℕ} → Led text (s .at) (word.sign o) end → s .depth ≡ last + 1 → last % mostHeld < length held
-      → entry ≡ (s .count - 1) * 8 + operatorNumber o + 1
+      → entry ≡ (s .count - 1) % mostRows * 8 + operatorNumber o + 1
       → Standing text at first before s rows held (waiting ∷ frames) (just e)
       → Standing text at first before (record { at = end; count = s .count; depth = last + 1; whole = false }) rows (set held (last % mostHeld) entry) (having e o ∷ frames) nothing
   sign-one {o} {e} last {entry} next deep room is st =
@@ -182,7 +198,7 @@ module _ {text : List ℕ} {at first : ℕ} {before : List ℕ} {s : Inside} {ro
         entries = (
           (λ few.
               ap (λ (n : ℕ). getD (set held (last % mostHeld) entry) (n % mostHeld) 0) (sym depth)
-              ∙ getD-set-same held (last % mostHeld) entry 0 room ∙ is ∙ ap (λ (n : ℕ). n * 8 + operatorNumber o + 1) top),
+              ∙ getD-set-same held (last % mostHeld) entry 0 room ∙ is ∙ ap (λ (n : ℕ). n % mostRows * 8 + operatorNumber o + 1) top),
           entries-above first held last entry _ _ frames (omega arith) (omega arith) (omega arith) (st .entries .1),
         );
         few = omega arith;
@@ -204,15 +220,16 @@ module _ {text : List ℕ} {at first : ℕ} {before : List ℕ} {s : Inside} {ro
       let size = frames-length first frames in
       let first-size = exprRows-length e base in
       let second-size = exprRows-length f (base + exprSize e) in
-      let opened : entry ≡ (base + exprBelow e) * 8 + operatorNumber o + 1 = is ∙ ap (λ (n : ℕ). getD held (n % mostHeld) 0) depth ∙ st .entries .0 (omega arith) in
+      let opened : entry ≡ (base + exprBelow e) % mostRows * 8 + operatorNumber o + 1 = is ∙ ap (λ (n : ℕ). getD held (n % mostHeld) 0) depth ∙ st .entries .0 (omega arith) in
       let few-signs = sign-few o in
       let sign : (entry - 1) % 8 ≡ operatorNumber o = omega arith in
-      let row : (entry - 1) / 8 ≡ base + exprBelow e = omega arith in
+      let row : (entry - 1) / 8 ≡ (base + exprBelow e) % mostRows = omega arith in
       let top : s .count - 1 ≡ base + exprSize e + exprBelow f = omega arith in
       let same-base : first + (framesSize frames + exprSize e) ≡ base + exprSize e = omega arith in
       let before-last : List Quad = (outer ++ exprRows base e) ++ exprRows (base + exprSize e) f in
       let quad : Quad = (10, operatorNumber o, base + exprBelow e, base + exprSize e + exprBelow f) in
-      let same-quad : (10, (entry - 1) % 8, (entry - 1) / 8, s .count - 1) ≡ quad = cc in
+      let cut-quad : Quad = (10, operatorNumber o, (base + exprBelow e) % mostRows, base + exprSize e + exprBelow f) in
+      let same-quad : (10, (entry - 1) % 8, (entry - 1) / 8, s .count - 1) ≡ cut-quad = cc in
       record {
         mode = refl;
         depth = depth;
@@ -223,6 +240,7 @@ module _ {text : List ℕ} {at first : ℕ} {before : List ℕ} {s : Inside} {ro
         later = later-on (st .later) (next .later);
         put =
             put ∙ ap (λ (q : Quad). rowPut (s .count) q rows) same-quad
+            ∙ row-near (s .count) (base + exprBelow e) (operatorNumber o) (base + exprSize e + exprBelow f) rows (omega arith)
             ∙ row-more first (s .count) before-last (outer ++ exprRows base (binary o e f)) quad before rows
             (st .put ∙ ap (λ (n : ℕ). rowsPut first ((outer ++ exprRows base e) ++ exprRows n f) before) same-base)
             (simp length-append (omega arith))

@@ -19,7 +19,7 @@ use Rattle.spans.specs.declared.Span.{Span}
 use Rattle.spans.proofs.WordLaws.{cut-begun, cut-found}
 use Rattle.reader.specs.Machine.{tag, isWord, isVariable, isNumeral, isSign, Symbol, expr, stop, advance, onExpr, expected, mayEnd, run}
 use Rattle.reader.specs.Atoms.{atomOf, AtomIs, VariableAt, ConstantAt, signNumber, SignAt}
-use Rattle.rules.specs.Limits.{tableWords}
+use Rattle.rules.specs.Limits.{mostRows, tableWords}
 use Rattle.reader.specs.Rows.{rowPut, rowsPut}
 use Rattle.reader.specs.Steps.{Asked, Stuck, Read, expressions}
 use Rattle.reader.specs.Statements.{oneWord, Compared, Led}
@@ -219,7 +219,7 @@ module _ {text : List ℕ} {s : Inside} {rows held : List ℕ} {span : Span} {by
     room : last % mostHeld < length held
     room = omega (arith, ready .held-long)
 
-    signed : {sign entry : ℕ} → getD held (last % mostHeld) 0 ≡ 0 → sign ≡ signNumber (tokenOf bytes) → (sign ≡ 6 → ⊥) → entry ≡ (s .count - 1) * 8 + sign + 1
+    signed : {sign entry : ℕ} → getD held (last % mostHeld) 0 ≡ 0 → sign ≡ signNumber (tokenOf bytes) → (sign ≡ 6 → ⊥) → entry ≡ (s .count - 1) % mostRows * 8 + sign + 1
         → Turned text s rows held (went (span .end) (s .count) (last + 1) false) rows (set held (last % mostHeld) entry)
     unfolding signNumber
     signed {sign} {entry} empty number some made =
@@ -321,7 +321,7 @@ module _ {text : List ℕ} {s : Inside} {rows held : List ℕ} {start : ℕ} (re
     pub over-few : {sign : ℕ} → SignAt text start sign → (sign ≡ 6 → ⊥) → sign ≤ 5
     over-few said some = sign-most _ (said (started .shown) (cut-found started .0) first-word .0) some
 
-    pub over-sign : {sign entry : ℕ} → getD held (outer % mostHeld) 0 ≡ 0 → SignAt text start sign → (sign ≡ 6 → ⊥) → entry ≡ (s .count - 1) * 8 + sign + 1
+    pub over-sign : {sign entry : ℕ} → getD held (outer % mostHeld) 0 ≡ 0 → SignAt text start sign → (sign ≡ 6 → ⊥) → entry ≡ (s .count - 1) % mostRows * 8 + sign + 1
         → Turned text s rows held (went (start + 1) (s .count) (outer + 1) false) rows (set held (outer % mostHeld) entry)
     over-sign {sign} {entry} empty said some made =
         let told = said (started .shown) (cut-found started .0) first-word in

@@ -14,7 +14,7 @@ use Rattle.language.specs.Recipes.{exprTokens}
 use Rattle.language.specs.Tables.{exprBelow, exprSize, operatorNumber, exprRows}
 use Rattle.spans.specs.Cut.{from}
 use Rattle.reader.specs.Machine.{expr}
-use Rattle.rules.specs.Limits.{tableWords}
+use Rattle.rules.specs.Limits.{mostRows, tableWords}
 use Rattle.reader.specs.Rows.{rowsPut}
 use Rattle.reader.specs.Steps.{Later, Stuck}
 use Rattle.reader.specs.declared.expressions.Inside.{Inside}
@@ -54,7 +54,7 @@ mostHeld = mostTextBytes / 4
 -- the entry that stands for a parenthesis, where these are around it
 abbrev pub entryOf : ℕ → List Frame → Frame → ℕ
 entryOf base frames waiting = 0
-entryOf base frames (having e o) = (base + framesSize frames + exprBelow e) * 8 + operatorNumber o + 1
+entryOf base frames (having e o) = (base + framesSize frames + exprBelow e) % mostRows * 8 + operatorNumber o + 1
 
 -- The entry of each parenthesis stands where its depth says, unless what is open cannot be closed before so many bytes: then one that
 -- was opened later may stand there.

@@ -10,15 +10,16 @@ use crate::put::CONSTANT;
 use crate::put::VARIABLE;
 use crate::put::put_row;
 use crate::words::is_word;
+use rules::MOST_ROWS;
 use rules::TABLE_WORDS;
 use spans::start_at;
 ghost use mathlib.Core.Bool.{true, false};
 ghost use mathlib.Core.List.{[], _∷_};
 ghost use mathlib.Core.Path.{_≡_};
-ghost use Prim.Native.Nat.{_+_, _*_, _≤_};
+ghost use mathlib.Core.Logic.{_≢_};
+ghost use Prim.Native.Nat.{_+_, _-_, _*_, _/_, _%_, _≤_};
 ghost use lib.ListN.{length};
-ghost use Rattle.rules.specs.Limits.{highestOperator};
-ghost use Rattle.language.specs.Limits.{mostTextBytes};
+ghost use Rattle.rules.specs.Limits.{highestOperator, mostRows};
 ghost use Rattle.reader.specs.Machine.{expr};
 ghost use Rattle.reader.specs.Steps.{Asked, Stepped, expressions};
 ghost use Rattle.reader.specs.Frames.{mostHeld, Ready, Turned};
@@ -30,7 +31,7 @@ pub const MOST_TEXT: usize = 16384;
 pub const MOST_HELD: usize = 4096;
 
 // An entry has room for so many operators beside a row.
-const SIGNS: u32 = 8;
+const SIGNS: u16 = 8;
 
 // The place after what was read, and how many rows there are; or the place from which on the first word is at fault.
 pub enum Step {
@@ -53,16 +54,32 @@ enum Turn {
     Faulty,
 }
 
-// The entry of a left side's row and an operator.
-fn entry_of(row: u32, sign: u32) -> u32
-    requires { ⌜ (row ≤ mostTextBytes) × (sign ≤ highestOperator) ⌝ }
-    ensures { λ r. ⌜ r ≡ row * 8 + sign + 1 ⌝ }
+// The entry of a left side's row and an operator. Of a row that no table can have only a part is kept: no row after it is put.
+fn entry_of(row: u32, sign: u32) -> u16
+    requires { ⌜ sign ≤ highestOperator ⌝ }
+    ensures { λ r. ⌜ r ≡ (row % mostRows) * 8 + sign + 1 ⌝ }
 {
-    row * SIGNS + sign + 1
+    (row as usize % MOST_ROWS) as u16 * SIGNS + sign as u16 + 1
+}
+
+// The operator of an entry.
+fn sign_in(entry: u16) -> u32
+    requires { ⌜ entry ≢ 0 ⌝ }
+    ensures { λ r. ⌜ r ≡ (entry - 1) % 8 ⌝ }
+{
+    ((entry - 1) % SIGNS) as u32
+}
+
+// The left side's row of an entry.
+fn row_in(entry: u16) -> u32
+    requires { ⌜ entry ≢ 0 ⌝ }
+    ensures { λ r. ⌜ r ≡ (entry - 1) / 8 ⌝ }
+{
+    ((entry - 1) / SIGNS) as u32
 }
 
 // Reads a word where an expression begins: a parenthesis, a number or a variable.
-fn begin(text: &[u8], s: Inside, rows: &mut [u32; TABLE_WORDS], held: &mut [u32; MOST_HELD]) -> Turn
+fn begin(text: &[u8], s: Inside, rows: &mut [u32; TABLE_WORDS], held: &mut [u16; MOST_HELD]) -> Turn
     requires { ⌜ Ready (now text) s (now rows) (now held) × (s .whole ≡ false) ⌝ }
     ensures { λ r. ⌜
         Turned (now (text .entry)) s (now (rows .entry)) (now (held .entry)) r (now (rows .exit)) (now (held .exit)) ⌝ }
@@ -109,7 +126,7 @@ fn begin(text: &[u8], s: Inside, rows: &mut [u32; TABLE_WORDS], held: &mut [u32;
 }
 
 // Reads a word after an expression: within parentheses the operator after a left side, or the end after a right one.
-fn go_on(text: &[u8], s: Inside, rows: &mut [u32; TABLE_WORDS], held: &mut [u32; MOST_HELD]) -> Turn
+fn go_on(text: &[u8], s: Inside, rows: &mut [u32; TABLE_WORDS], held: &mut [u16; MOST_HELD]) -> Turn
     requires { ⌜ Ready (now text) s (now rows) (now held) × (s .whole ≡ true) ⌝ }
     ensures { λ r. ⌜
         Turned (now (text .entry)) s (now (rows .entry)) (now (held .entry)) r (now (rows .exit)) (now (held .exit)) ⌝ }
@@ -141,8 +158,8 @@ fn go_on(text: &[u8], s: Inside, rows: &mut [u32; TABLE_WORDS], held: &mut [u32;
         rows,
         count,
         BINARY,
-        (entry - 1) % SIGNS,
-        (entry - 1) / SIGNS,
+        sign_in(entry),
+        row_in(entry),
         count - 1,
     );
     Turn::Went(Inside {
@@ -158,7 +175,7 @@ fn read_word(
     text: &[u8],
     s: Inside,
     rows: &mut [u32; TABLE_WORDS],
-    held: &mut [u32; MOST_HELD],
+    held: &mut [u16; MOST_HELD],
 ) -> Turn
     requires { ⌜ Ready (now text) s (now rows) (now held) ⌝ }
     ensures { λ r. ⌜
@@ -176,7 +193,7 @@ pub fn read_expression(
     from: usize,
     first: u32,
     rows: &mut [u32; TABLE_WORDS],
-    held: &mut [u32; MOST_HELD],
+    held: &mut [u16; MOST_HELD],
 ) -> Step
     requires { ⌜ Asked (now text) from first (now rows) × (length (now held) ≡ mostHeld) ⌝ }
     ensures { λ r. ⌜

@@ -118,7 +118,7 @@ fn read_body(
     text: &[u8],
     s: Seen,
     rows: &mut [u32; TABLE_WORDS],
-    held: &mut [u32; MOST_HELD],
+    held: &mut [u16; MOST_HELD],
     table: &mut [u32],
 ) -> Said
     requires { ⌜

@@ -53,7 +53,7 @@ fn read_output(
     count: u32,
     channel: u32,
     rows: &mut [u32; TABLE_WORDS],
-    held: &mut [u32; MOST_HELD],
+    held: &mut [u16; MOST_HELD],
 ) -> Step
     requires { ⌜ Asked (now text) from count (now rows) × (length (now held) ≡ mostHeld) ⌝ }
     ensures { λ r. ⌜
@@ -79,7 +79,7 @@ fn read_set(
     from: usize,
     count: u32,
     rows: &mut [u32; TABLE_WORDS],
-    held: &mut [u32; MOST_HELD],
+    held: &mut [u16; MOST_HELD],
 ) -> Step
     requires { ⌜ Asked (now text) from count (now rows) × (length (now held) ≡ mostHeld) ⌝ }
     ensures { λ r. ⌜
@@ -121,7 +121,7 @@ fn read_if(
     from: usize,
     count: u32,
     rows: &mut [u32; TABLE_WORDS],
-    held: &mut [u32; MOST_HELD],
+    held: &mut [u16; MOST_HELD],
 ) -> Step
     requires { ⌜ Asked (now text) from count (now rows) × (length (now held) ≡ mostHeld) ⌝ }
     ensures { λ r. ⌜
@@ -168,7 +168,7 @@ fn read_while(
     from: usize,
     count: u32,
     rows: &mut [u32; TABLE_WORDS],
-    held: &mut [u32; MOST_HELD],
+    held: &mut [u16; MOST_HELD],
 ) -> Step
     requires { ⌜ Asked (now text) from count (now rows) × (length (now held) ≡ mostHeld) ⌝ }
     ensures { λ r. ⌜
@@ -205,7 +205,7 @@ pub fn read_statement(
     from: usize,
     count: u32,
     rows: &mut [u32; TABLE_WORDS],
-    held: &mut [u32; MOST_HELD],
+    held: &mut [u16; MOST_HELD],
 ) -> Step
     requires { ⌜ Asked (now text) from count (now rows) × (length (now held) ≡ mostHeld) ⌝ }
     ensures { λ r. ⌜
@@ -244,7 +244,7 @@ pub fn read_block(
     from: usize,
     count: u32,
     rows: &mut [u32; TABLE_WORDS],
-    held: &mut [u32; MOST_HELD],
+    held: &mut [u16; MOST_HELD],
 ) -> Step
     requires { ⌜ Asked (now text) from count (now rows) × (length (now held) ≡ mostHeld) ⌝ }
     ensures { λ r. ⌜

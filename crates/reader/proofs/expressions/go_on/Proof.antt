@@ -1,8 +1,11 @@
 -- `reader::expressions::go_on` meets its contract. Assumes nothing.
+use Prim.Native.Nat.{ℕ, _-_}
 use native.Mathlib.Omega.{arith}
-use mathlib.Core.Path.{refl}
+use mathlib.Core.Path.{refl, ap₂, _∙_}
+use denote.Ref.{now}
 use borrow.Author.Tests.{not-true, not-false}
 use borrow.Author.Needs.{needs}
+use Rattle.reader.specs.Rows.{rowPut}
 use Rattle.reader.proofs.TurnLaws.{over-few, over-sign, over-unsigned, over-closing, over-unclosed}
 use Rattle.reader.proofs.expressions.go_on.Statement.{statement}
 use Rattle.reader.proofs.expressions.go_on.Tie as tie
@@ -50,10 +53,7 @@ entry-of-requires : tie.Need-entry-of-requires
 entry-of-requires c κs =
     let sign = c .before in
     let here = sign .before .before in
-    let ready = start here .pre .0 in (
-      omega (arith, ready .few, ready .inside, ready .short),
-      over-few ready (started here .start-at .ensures) (start here .pre .1) (started here .before .if1 .left) (sign .sign-at .ensures .0) (c .if3 .left),
-    )
+    over-few (start here .pre .0) (started here .start-at .ensures) (start here .pre .1) (started here .before .if1 .left) (sign .sign-at .ensures .0) (c .if3 .left)
 
 mul-held : tie.Need-mul-held
 mul-held c = search needs
@@ -90,15 +90,15 @@ returns-4 c =
     over-unclosed (start here .pre .0) (started here .start-at .ensures) (start here .pre .1) (started here .before .if1 .left)
     (test .if2 .left) (key .is-word .ensures .0) (not-true (key .is-word .result) (c .if4 .taken))
 
+sign-in-requires : tie.Need-sign-in-requires
+sign-in-requires c κs = c .before .before .before .before .if2 .left
+
+row-in-requires : tie.Need-row-in-requires
+row-in-requires c κs = c .before .before .before .before .before .if2 .left
+
 sub-put-row : tie.Need-sub-put-row
-sub-put-row c = search needs
-
-sub-put-row-2 : tie.Need-sub-put-row-2
-sub-put-row-2 c = search needs
-
-sub-put-row-3 : tie.Need-sub-put-row-3
-sub-put-row-3 c =
-    let here = c .before .before .before .before .before in
+sub-put-row c =
+    let here = c .before .before .before .before .before .before .before in
     omega (arith, start here .pre .0 .some (start here .pre .1))
 
 put-row-requires : tie.Need-put-row-requires
@@ -106,20 +106,24 @@ put-row-requires c κs = search needs
 
 add-t12 : tie.Need-add-t12
 add-t12 c =
-    let other = c .before .before in
+    let other = c .before .before .before .before in
     omega (arith, other .before .is-word .ensures .1 (not-false (other .before .is-word .result) (other .if4 .left)))
 
-add-t33 : tie.Need-add-t33
-add-t33 c = search needs
+add-t32 : tie.Need-add-t32
+add-t32 c = search needs
 
 returns-5 : tie.Need-returns-5
 returns-5 c =
-    let other = c .before .before in
+    let row = c .before in
+    let sign = row .before in
+    let other = sign .before .before in
     let key = other .before in
     let test = key .before .before in
     let here = test .before in
+    let count = start here .args .s .count in
     over-closing (start here .pre .0) (started here .start-at .ensures) (start here .pre .1) (started here .before .if1 .left)
-    (c .put-row .ensures) refl (test .if2 .left) (key .is-word .ensures .0) (not-false (key .is-word .result) (other .if4 .left))
+    (c .put-row .ensures ∙ ap₂ (λ (a b : ℕ). rowPut count (10, a, b, count - 1) (now (start here .args .rows))) (sign .sign-in .ensures) (row .row-in .ensures))
+    refl (test .if2 .left) (key .is-word .ensures .0) (not-false (key .is-word .result) (other .if4 .left))
 
 pub go-on-spec : {M : Type 1} → statement M
 go-on-spec =
@@ -142,10 +146,10 @@ go-on-spec =
     slice-aggregate-is-word
     is-word-requires
     returns-4
+    sign-in-requires
+    row-in-requires
     sub-put-row
-    sub-put-row-2
-    sub-put-row-3
     put-row-requires
     add-t12
-    add-t33
+    add-t32
     returns-5)
