@@ -9,7 +9,7 @@ use Rattle.expression.proofs.SaidLaws.{evaluation-unique, assigned-unique}
 use Rattle.numbers.proofs.FieldLaws.{field-unique}
 use Rattle.job.proofs.JobLaws.{reading-unique}
 use Rattle.report.proofs.ReportLaws.{wrote-unique}
-use Rattle.spans.proofs.WordLaws.{cut-once}
+use Rattle.spans.proofs.WordLaws.{begun-once, cut-once}
 use Rattle.language.proofs.OneAnswer.{one-answer}
 use Rattle.embed.proofs.CallLaws.{read-once}
 use Rattle.decided.specs.NoSecondAnswer.{NoSecondAnswer}
@@ -62,7 +62,9 @@ no-second-answer = record {
   write-refusal = λ _ _ _ _ _ _ e f. (wrote-unique _ _ (λ i. same e f i .said), λ i. (tt, (tt, (same e f i .out, tt))));
   write-report = λ _ _ _ _ _ _ e f. (wrote-unique _ _ (λ i. same e f i .said), λ i. (tt, (tt, (same e f i .out, tt))));
   answer-job = λ _ _ _ _ _ _ e f. (wrote-unique _ _ (λ i. same e f i .said), λ i. (tt, (same e f i .out, tt)));
+  start-at = λ _ _ _ _ _ _ e f. (begun-once e f, refl);
   word-at = λ _ _ _ _ _ _ e f. (cut-once e f, refl);
+  is-joined = λ _ _ _ _ _ _ e f. (same e f, refl);
   is-key = λ _ _ _ _ _ _ e f. (same e f, refl);
   read-text = λ _ _ _ _ _ _ e f. let r = one-answer _ _ _ _ _ e f in (λ i. r i .said, λ i. (tt, (r i .table, tt)));
   buzorinde-judge = λ _ _ _ _ _ _ e f. let c = same (sym e) (sym f) in (λ i. c i .status, λ i. (tt, (c i .answer, tt)));

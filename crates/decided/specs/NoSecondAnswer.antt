@@ -25,7 +25,9 @@ use Rattle.job.proofs.read_job
 use Rattle.report.proofs.write_refusal
 use Rattle.report.proofs.write_report
 use Rattle.desk.proofs.answer_job
+use Rattle.spans.proofs.start_at
 use Rattle.spans.proofs.word_at
+use Rattle.spans.proofs.is_joined
 use Rattle.spans.proofs.is_key
 use Rattle.reader.proofs.read_text
 use Rattle.embed.proofs.buzorinde_judge
@@ -69,7 +71,9 @@ pub record NoSecondAnswer : Type 0 where
   -- `desk`
   pub answer-job : Decided answer_job.signature answer_job.Reads.Learnt
   -- `spans`
+  pub start-at : Decided start_at.signature start_at.Reads.Learnt
   pub word-at : Decided word_at.signature word_at.Reads.Learnt
+  pub is-joined : Decided is_joined.signature is_joined.Reads.Learnt
   pub is-key : Decided is_key.signature is_key.Reads.Learnt
   -- `reader`
   pub read-text : Decided read_text.signature read_text.Reads.Learnt

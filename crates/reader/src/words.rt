@@ -24,7 +24,8 @@ pub fn is_word(text: &[u8], at: usize, key: &[u8]) -> bool
         return false;
     }
     let next = at + key.len();
-    if !is_key(&text[at..next], key) {
+    let word = &text[at..next];
+    if !is_key(word, key) {
         return false;
     }
     if is_joined(key, 0) {

@@ -26,14 +26,14 @@ returns c =
 add-next : tie.Need-add-next
 add-next c = search needs
 
-sub-is-key : tie.Need-sub-is-key
-sub-is-key c = search needs
+sub-word : tie.Need-sub-word
+sub-word c = search needs
 
-part-is-key-start : tie.Need-part-is-key-start
-part-is-key-start c = search needs
+part-word-start : tie.Need-part-word-start
+part-word-start c = search needs
 
-part-is-key-end : tie.Need-part-is-key-end
-part-is-key-end c = search needs
+part-word-end : tie.Need-part-word-end
+part-word-end c = search needs
 
 is-key-requires : tie.Need-is-key-requires
 is-key-requires c κs = search needs
@@ -96,9 +96,9 @@ is-word-spec =
     sub-if1
     returns
     add-next
-    sub-is-key
-    part-is-key-start
-    part-is-key-end
+    sub-word
+    part-word-start
+    part-word-end
     is-key-requires
     returns-2
     is-joined-requires
