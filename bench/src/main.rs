@@ -5,18 +5,25 @@ mod jobs;
 mod judge;
 mod levels;
 mod operate;
+mod reader;
 mod recipe;
+mod texts;
 mod unwatched;
 mod watched;
 mod workloads;
 
-use buzorinde::{Answer, VARIABLES};
+use buzorinde::{Answer, Reading, MOST_TABLE_WORDS, VARIABLES};
 use std::hint::black_box;
 use std::process::Command;
 use std::time::Instant;
+use texts::Text;
 use workloads::Workload;
 
 type Run = fn(&[u32], &mut [u32; VARIABLES], u32, u32, &mut [u32]) -> Answer;
+
+type Reader = for<'a> fn(&'a [u8], &mut [u32]) -> Reading<'a>;
+
+const READERS: [Reader; 2] = [buzorinde::read, reader::read];
 
 /// The nanoseconds of one call, least and median.
 struct Times {
@@ -139,7 +146,14 @@ fn main() {
     );
     println!(
         "{:<42} {:>9} {:>9} | {:>8} {:>8} {:>8} | {:>8} {:>8}",
-        "judge, level check and jobs", "by hand", "", "proved", "by hand", "", "proved", "by hand"
+        "judge, level check, texts and jobs",
+        "by hand",
+        "",
+        "proved",
+        "by hand",
+        "",
+        "proved",
+        "by hand"
     );
     for (name, table) in workloads::judged().iter().filter(|(name, _)| wanted(name)) {
         assert_eq!(buzorinde::judge(table), judge::judge(table), "{name}");
@@ -172,12 +186,37 @@ fn main() {
         });
         print_pair(name, times);
     }
+    for text in texts::accepted().iter().filter(|text| wanted(text.name)) {
+        print_text(repetitions, text);
+    }
     for work in workloads::jobs().iter().filter(|work| wanted(work.name)) {
         print_job(repetitions, work);
     }
     if words.len() < 2 {
         print_growth(repetitions);
     }
+}
+
+/// The whole answer of a reading: what it answers, and the table.
+fn whole_reading(read: Reader, text: &Text) -> (Reading<'_>, Vec<u32>) {
+    let mut table = vec![7; MOST_TABLE_WORDS];
+    (read(&text.bytes, &mut table), table)
+}
+
+/// Fails unless both sides give the same whole answer.
+fn compare_readings(text: &Text) {
+    let [proved, by_hand] = READERS.map(|read| whole_reading(read, text));
+    assert!(proved == by_hand, "{}", text.name);
+}
+
+/// A line for a text.
+fn print_text(repetitions: usize, text: &Text) {
+    compare_readings(text);
+    let mut table = [0; MOST_TABLE_WORDS];
+    let times = measure(repetitions, text.times, |i| {
+        black_box(READERS[i](black_box(&text.bytes), &mut table));
+    });
+    print_pair(text.name, times);
 }
 
 /// A line for a job: each side is a program that is started, given the job, and read to its end.
@@ -195,7 +234,7 @@ fn print_job(repetitions: usize, work: &Workload) {
     print_pair(work.name, times);
 }
 
-/// How the proved run grows with its steps, and the proved judge with its rows.
+/// How the proved run grows with its steps, the proved judge with its rows, and the proved reader with the text's bytes.
 fn print_growth(repetitions: usize) {
     println!();
     println!(
@@ -229,6 +268,20 @@ fn print_growth(repetitions: usize) {
             format!("judge, {rows} rows"),
             proved.least,
             proved.least / rows as f64
+        );
+    }
+    for text in texts::longer() {
+        compare_readings(&text);
+        let bytes = text.bytes.len();
+        let mut table = [0; MOST_TABLE_WORDS];
+        let [proved] = measure(repetitions, text.times, |_| {
+            black_box(buzorinde::read(black_box(&text.bytes), &mut table));
+        });
+        println!(
+            "{:<42} {:>12.0} {:>12.2}",
+            format!("{}, {bytes} bytes", text.name),
+            proved.least,
+            proved.least / bytes as f64
         );
     }
 }
