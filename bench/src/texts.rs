@@ -99,9 +99,12 @@ fn indented(bytes: usize) -> Vec<u8> {
     laid_out(&sums.join("; "), bytes).into_bytes()
 }
 
+/// Makes a text of so many bytes.
+type OfLength = fn(usize) -> Vec<u8>;
+
 /// Texts whose lengths grow, of each sort.
 pub fn longer() -> Vec<Text> {
-    let sorts: [(&'static str, fn(usize) -> Vec<u8>); 5] = [
+    let sorts: [(&'static str, OfLength); 5] = [
         ("read indented lines", indented),
         ("read `(` again and again", |n| repeated("settled ", "(", n)),
         ("read `if 1 then` again and again", |n| {
