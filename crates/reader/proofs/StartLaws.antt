@@ -11,14 +11,14 @@ use Rattle.language.specs.Words.{isBlank, isJoining, joins}
 use Rattle.language.specs.Tokens.{same}
 use Rattle.spans.specs.Cut.{part, Cut, JoinedTo}
 use Rattle.spans.specs.declared.Span.{Span}
-use Rattle.spans.proofs.WordLaws.{part-next, part-length, joins-at, joins-not, cut-run, cut-one, cut-once, cut-joined, cut-some, same-lengths}
+use Rattle.spans.proofs.WordLaws.{part-next, part-length, joins-at, joins-not, cut-run, cut-one, cut-once, cut-joined, cut-some}
 use Rattle.reader.specs.Statements.{allJoining, oneWord}
 use Rattle.reader.proofs.Clash.{clash}
 use Rattle.reader.proofs.KeyLaws.{same-is}
 
 -- ---- a key
 
-pub key-some : (key : List ℕ) → oneWord key ≡ true → 0 < length key
+key-some : (key : List ℕ) → oneWord key ≡ true → 0 < length key
 key-some [] one = clash (cc)
 key-some (byte ∷ key) one = omega arith
 

@@ -9,7 +9,6 @@ use lib.ListN.{length, getD, set, length-set}
 use Rattle.rules.specs.declared.Operator.{Operator}
 use Rattle.rules.specs.Cases.{Quad}
 use Rattle.rules.specs.Trees.{Expr, constant, variable, binary}
-use Rattle.language.specs.Limits.{mostTextBytes}
 use Rattle.language.specs.Tokens as word
 use Rattle.language.specs.Tokens.{Token, same, counted, tokenOf}
 use Rattle.language.specs.Recipes.{exprTokens}

@@ -15,7 +15,7 @@ use Rattle.language.specs.Recipes.{Declaration, levelTokens, declarationsTokens
 use Rattle.language.specs.Tables.{makesProvisional, marksFrom}
 use Rattle.language.specs.Readings.{repeated}
 use Rattle.spans.specs.Cut.{from, part}
-use Rattle.reader.specs.Machine.{isWord, exactly, name, start, level}
+use Rattle.reader.specs.Machine.{exactly, name, start, level}
 use Rattle.reader.specs.Steps.{Later, Missing, Stuck}
 use Rattle.reader.specs.Statements.{Led}
 use Rattle.reader.specs.declared.head.Level.{Level}

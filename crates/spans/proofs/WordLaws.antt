@@ -208,16 +208,6 @@ cut-end text i h =
     }
 
 -- from an earlier place between which and this one no word starts
-pub cut-earlier : (text : List ℕ) (at i : ℕ) (s : Span) → at ≤ i → from text i ≡ from text at → Cut text i s → Cut text at s
-cut-earlier text at i s h e c =
-    record {
-      forward = c .forward;
-      inside = c .inside;
-      later = λ k. omega (arith, c .later k);
-      first = λ k. sym e ∙ c .first k;
-      last = λ k. (c .last k .0, sym e ∙ c .last k .1);
-    }
-
 pub cut-begun : {text : List ℕ} {at start : ℕ} {s : Span} → Begun text at start → Cut text start s → Cut text at s
 cut-begun b c =
     record {

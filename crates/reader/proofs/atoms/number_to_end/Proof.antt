@@ -5,7 +5,7 @@ use mathlib.Core.Path.{_≡_, sym, ap, _∙_}
 use lib.ListN.{drop}
 use denote.Ref.{now}
 use borrow.Author.Needs.{needs}
-use Rattle.lines.specs.Numbers.{noNumber, number, numberAt}
+use Rattle.lines.specs.Numbers.{number, numberAt}
 use Rattle.numbers.specs.Read.{fieldSaid, nextOf}
 use Rattle.reader.proofs.AtomLaws.{to-none, to-over, to-joined, to-is}
 use Rattle.reader.proofs.atoms.number_to_end.Statement.{statement}

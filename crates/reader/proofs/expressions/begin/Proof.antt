@@ -1,6 +1,5 @@
 -- `reader::expressions::begin` meets its contract. Assumes nothing.
 use native.Mathlib.Omega.{arith}
-use mathlib.Core.Path.{refl}
 use borrow.Author.Needs.{needs}
 use Rattle.reader.proofs.TurnLaws.{begun-opening, begun-variable, begun-constant, begun-nothing}
 use Rattle.reader.proofs.expressions.begin.Statement.{statement}

@@ -9,7 +9,7 @@ use mathlib.Core.Path.{_≡_}
 use lib.ListN.{length}
 use denote.Ref.{now}
 use Rattle.language.specs.Tokens as word
-use Rattle.language.specs.Tokens.{Token, same}
+use Rattle.language.specs.Tokens.{Token}
 use Rattle.reader.specs.Machine.{atElse, atEnd, expr, statement, exactly, rest}
 use Rattle.reader.specs.Steps.{Missing, expressions, statements, blocks, Asked, Read, Stepped, Over}
 use Rattle.reader.specs.declared.expressions.Step.{Step}
