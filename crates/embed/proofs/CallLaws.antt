@@ -1,13 +1,12 @@
 -- What a call answers, from whether a buffer is too short and from what the proved functions answered.
-use Prim.Native.Nat.{ℕ, suc, _+_, _-_, _%_, _^_, _≤_, _<_}
-use mathlib.Core.Bool.{Bool, true, false}
+use Prim.Native.Nat.{ℕ, _+_, _-_, _%_, _^_, _≤_, _<_}
+use mathlib.Core.Bool.{Bool, false}
 use mathlib.Core.List.{List, [], _∷_, _++_}
 use mathlib.Core.Path.{_≡_, refl, sym, ap, ap₂, subst, _∙_}
-use native.Mathlib.Numerals.{add-one}
 use native.Mathlib.Omega.{arith}
 use lib.Dec.{ltb}
-use lib.ListN.{length, take, drop, getD, set, length-append, length-drop}
-use lib.Seq.{sets, sets-eq, take-append-seam, drop-append-add, drop-drop, take-all, drop-cons, set-at, length-take-le, append-snoc, take-suc}
+use lib.ListN.{length, take, drop, length-append, length-drop}
+use lib.Seq.{sets, sets-eq, take-append-seam, drop-append-add, drop-drop, take-all}
 use borrow.Author.Tests.{lt-ltb, le-ltb}
 use Rattle.rules.specs.declared.Advice.{Advice}
 use Rattle.rules.specs.declared.Answer.{Answer}
@@ -18,7 +17,7 @@ use Rattle.language.specs.declared.Said as language
 use Rattle.language.specs.Readings.{handed, Reading, Reads}
 use Rattle.language.proofs.OneAnswer.{one-answer}
 use Rattle.embed.specs.declared.Numbers.{Numbers}
-use Rattle.embed.specs.Calls.{numbersOf, saidWords, runWords, laid, answered, answerTooShort, memoryTooShort, judgeLength, runLength, callBy, judgeCall, checkWords, checkLength, checkCall, ranCall, runCallBy, runCall, firstWords, readWords, readLength, ReadCall, ReadCalls, short, reads}
+use Rattle.embed.specs.Calls.{numbersOf, saidWords, laid, answered, answerTooShort, memoryTooShort, judgeLength, runLength, callBy, judgeCall, checkWords, checkLength, checkCall, ranCall, runCallBy, runCall, firstWords, readWords, readLength, ReadCall, ReadCalls, short, reads}
 
 -- words laid over a buffer, and more stored after them
 pub laid-more : (words more buffer : List ℕ) → length words + length more ≤ length buffer

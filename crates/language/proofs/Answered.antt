@@ -1,14 +1,14 @@
 -- What is answered to a text that is a recipe, case by case, and what follows for every text.
-use Prim.Native.Nat.{ℕ, _*_, _≤_, _<_}
+use Prim.Native.Nat.{ℕ, _*_}
 use native.Mathlib.Omega.{arith}
 use mathlib.Core.Bool.{Bool, true, false}
 use mathlib.Core.List.{List, [], _∷_, _++_}
 use mathlib.Core.Logic.{_⊎_, inl, inr}
-use mathlib.Core.Path.{_≡_, refl, sym, ap, ap₂, subst, _∙_}
+use mathlib.Core.Path.{_≡_, refl, sym, ap, subst, _∙_}
 use lib.Dec.{leb}
 use lib.ListN.{length, take, drop}
 use lib.Seq.{take-append-seam, drop-append-seam}
-use borrow.Author.Tests.{leb-true, leb-false}
+use borrow.Author.Tests.{leb-true}
 use Rattle.rules.specs.declared.Judged.{Judged}
 use Rattle.rules.specs.Limits.{rowWords, mostRows}
 use Rattle.rules.specs.Marks.{none}
@@ -16,11 +16,11 @@ use Rattle.rules.specs.Rows.{rowsOf}
 use Rattle.rules.specs.Trees as tree
 use Rattle.rules.specs.Judging.{judge}
 use Rattle.language.specs.declared.Part.{Part}
-use Rattle.language.specs.Limits.{mostTextBytes, faultyWord, declaredAgain, tooManyRows, tableTooShort}
+use Rattle.language.specs.Limits.{faultyWord, declaredAgain, tooManyRows, tableTooShort}
 use Rattle.language.specs.Words.{Word}
 use Rattle.language.specs.Recipes.{Recipe}
 use Rattle.language.specs.Tables.{blockSize, tableOf, marksOf}
-use Rattle.language.specs.Readings.{wordsOf, Is, endOf, partAt, repeated, refused, Reading, untouched, laid, judged, sized, declared, readingOf, Reads, long, faulty, read}
+use Rattle.language.specs.Readings.{wordsOf, Is, endOf, partAt, repeated, refused, Reading, untouched, laid, judged, sized, declared, readingOf, long, faulty, read}
 use Rattle.language.specs.Claims.{ExactlyRecipes, RefusedChangesNothing, Stands, AcceptedStands}
 use Rattle.language.proofs.Declared.{marks-declared}
 use Rattle.language.proofs.TableLaws.{table-is-judged, rows-are-the-tree, table-words}

@@ -9,10 +9,9 @@ use lib.ListN.{length, take, drop, length-append, take-append-drop}
 use lib.Seq.{take-append-le, take-append-add}
 use borrow.Author.Tests.{ne-eqb}
 use Rattle.lines.specs.Numbers.{isDigit}
-use Rattle.language.specs.declared.Part.{Part}
 use Rattle.language.specs.Words.{Word, word, isBlank, isLetter, isJoining, joins, grown, onByte, wordsFrom}
-use Rattle.language.specs.Tokens.{Token, tokenOf, tokens}
-use Rattle.language.specs.Readings.{Begun, Fault, wordsOf, handed, partAt}
+use Rattle.language.specs.Tokens.{tokenOf, tokens}
+use Rattle.language.specs.Readings.{Begun, partAt}
 use Rattle.language.specs.Claims.{FaultIsFirst, PartIsTheWord}
 use Rattle.language.proofs.OneAnswer.{begun-first}
 

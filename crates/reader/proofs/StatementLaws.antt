@@ -13,7 +13,7 @@ use Rattle.language.specs.Tokens.{Token, counted, tokens}
 use Rattle.language.specs.Recipes.{Statement, skip, set, if, while, Block, one, more, exprTokens, statementTokens, blockTokens}
 use Rattle.language.specs.Recipes as recipe
 use Rattle.language.specs.Tables.{exprBelow, exprSize, statementBelow, statementSize, blockBelow, blockSize, exprRows, statementRows, blockRows}
-use Rattle.spans.specs.Cut.{from, part}
+use Rattle.spans.specs.Cut.{from}
 use Rattle.reader.specs.Machine.{Closer, atElse, atEnd, Symbol, expr, statement, exactly, name, rest, onStatement, closing, onRest, run}
 use Rattle.reader.specs.Rows.{rowPut, rowsPut}
 use Rattle.reader.specs.Steps.{Missing, Sort, expressions, statements, blocks, Later, Asked, Read, Stuck, Stepped, Over, BlockStepped}

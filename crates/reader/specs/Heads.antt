@@ -1,5 +1,5 @@
 -- What the reader of declarations says.
-use Prim.Native.Nat.{ℕ, _+_, _-_, _%_, _≤_, _<_}
+use Prim.Native.Nat.{ℕ, _+_, _%_, _≤_, _<_}
 use mathlib.Core.Bool.{Bool, true, false, cond, _&&_}
 use mathlib.Core.List.{List, [], _∷_, _++_}
 use mathlib.Core.Path.{_≡_}
@@ -9,7 +9,7 @@ use Rattle.rules.specs.Limits.{width}
 use Rattle.rules.specs.Marks.{none, has, put}
 use Rattle.language.specs.Words.{Word, word}
 use Rattle.language.specs.Tokens as token
-use Rattle.language.specs.Tokens.{Token, tokens}
+use Rattle.language.specs.Tokens.{tokens}
 use Rattle.language.specs.Recipes as recipe
 use Rattle.language.specs.Recipes.{Declaration, levelTokens, declarationsTokens}
 use Rattle.language.specs.Tables.{makesProvisional, marksFrom}

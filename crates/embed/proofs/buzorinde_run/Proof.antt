@@ -7,7 +7,7 @@ use lib.ListN.{length, take, replicate}
 use Rattle.rules.specs.Limits.{width}
 use Rattle.embed.specs.declared.Numbers.{Numbers}
 use Rattle.embed.specs.Calls.{saidWords, laid, RunCall}
-use mathlib.Core.Path.{_≡_, refl, sym, ap, _∙_}
+use mathlib.Core.Path.{_≡_, sym, ap, _∙_}
 use Rattle.rules.specs.Answers.{inputs}
 use Rattle.leaves.proofs.CopyLaws.{copied-all}
 use Rattle.embed.proofs.CallLaws.{run-short-answer, run-short-memory, run-given, run-answered}

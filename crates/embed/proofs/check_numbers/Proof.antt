@@ -3,7 +3,7 @@ use borrow.Author.Needs.{needs}
 use Rattle.embed.specs.Calls.{numbersOf}
 use Rattle.rules.specs.Answers.{saidOfCheck}
 use Rattle.rules.specs.declared.Checked.{Checked}
-use mathlib.Core.Path.{_≡_, sym, ap, _∙_}
+use mathlib.Core.Path.{sym, ap, _∙_}
 use Rattle.embed.proofs.check_numbers.Statement.{statement}
 use Rattle.embed.proofs.check_numbers.Tie as tie
 
