@@ -72,7 +72,7 @@ enum {
     BUZORINDE_MOST_LOOP_NESTING = 3,   /* of whiles */
     BUZORINDE_RECORD_WORDS = 2,        /* a record of a trace: channel, value */
     BUZORINDE_MOST_TRACE_WORDS = 16384, /* that may be lent; of an odd number of words, the last one is never written */
-    BUZORINDE_MOST_TEXT_BYTES = 16384  /* of a recipe's text */
+    BUZORINDE_MOST_TEXT_BYTES = 16384   /* of a recipe's text */
 };
 
 /* The places of an answer's words. The first three are those of every answer. */
@@ -85,8 +85,8 @@ enum {
     BUZORINDE_RECORDS = 4, /* of a run: how many records the trace begins with, two words each: channel, value */
     BUZORINDE_MARKS = 5,   /* of a run: the mark set reached; bit i set means that variable i is provisional */
     BUZORINDE_READ_ROWS = 3,  /* of a reading: how many rows the table begins with, or 0 where it is refused */
-    BUZORINDE_READ_START = 4, /* of a reading: where the part that is handed back starts, and how many bytes it has; for */
-    BUZORINDE_READ_SIZE = 5,  /* refusals 10 and 11 the faulty word, and else, or at the end, the empty part at the text's end */
+    BUZORINDE_READ_START = 4, /* of a reading: where the part of the text starts that is handed back */
+    BUZORINDE_READ_SIZE = 5,  /* of a reading: how many bytes that part has */
     BUZORINDE_READ_MARKS = 6  /* of a reading: the start marks, or 0 where it is refused */
 };
 
@@ -176,8 +176,9 @@ uint32_t buzorinde_run(const uint32_t *table, size_t table_words, uint32_t *memo
  * first words of `table`, BUZORINDE_ROW_WORDS for each, and the words after them keep their contents; a table of BUZORINDE_MOST_ROWS
  * rows has room for every recipe. What the table then holds is accepted by the judge. A refused reading has not changed the table.
  *
- * The part that is handed back is bytes START to START + SIZE of the text, for an editor to underline. A text of 2^32 bytes or more,
- * which is refused as too long, has START modulo 2^32. */
+ * The part that is handed back is for an editor to underline: for refusals 10 and 11 the faulty word; for the other refusals, for
+ * a fault at the end and for an accepted text the empty part at the text's end. A text of 2^32 bytes or more, which is refused as too
+ * long, has its start modulo 2^32. */
 uint32_t buzorinde_read(const uint8_t *text, size_t text_bytes, uint32_t *table, size_t table_words, uint32_t *answer,
                         size_t answer_words);
 
