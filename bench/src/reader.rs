@@ -1,7 +1,7 @@
 //! The reader by hand: recursive descent straight on the bytes, with the rows in an array until the text is known to be accepted.
 
 use crate::judge::judge;
-use buzorinde::{Judged, Read, Reading, MOST_ROWS, MOST_TEXT_BYTES, ROW_WORDS};
+use buzorinde::{Judged, Read, Reading, MOST_TABLE_WORDS, MOST_TEXT_BYTES, ROW_WORDS};
 
 /// Where the faulty word starts.
 struct Fault(usize);
@@ -15,7 +15,7 @@ struct Head {
 struct Reader<'a> {
     text: &'a [u8],
     at: usize,
-    rows: [[u32; ROW_WORDS]; MOST_ROWS],
+    rows: [u32; MOST_TABLE_WORDS],
     count: u32,
 }
 
@@ -28,7 +28,7 @@ pub fn read<'a>(text: &'a [u8], table: &mut [u32]) -> Reading<'a> {
     let mut reader = Reader {
         text,
         at: 0,
-        rows: [[0; ROW_WORDS]; MOST_ROWS],
+        rows: [0; MOST_TABLE_WORDS],
         count: 0,
     };
     let head = match reader.recipe() {
@@ -38,10 +38,9 @@ pub fn read<'a>(text: &'a [u8], table: &mut [u32]) -> Reading<'a> {
     if let Some(start) = head.again {
         return refused(11, 0, text, start);
     }
-    let Some(rows) = reader.rows.get(..reader.count as usize) else {
+    let Some(words) = reader.rows.get(..reader.count as usize * ROW_WORDS) else {
         return refused(12, 0, text, end);
     };
-    let words = rows.as_flattened();
     if let Judged::Refused { number, row } = judge(words) {
         return refused(number, row, text, end);
     }
@@ -125,8 +124,9 @@ impl Reader<'_> {
     #[inline]
     fn put(&mut self, row: [u32; ROW_WORDS]) -> u32 {
         let number = self.count;
-        if let Some(place) = self.rows.get_mut(number as usize) {
-            *place = row;
+        let first = number as usize * ROW_WORDS;
+        if let Some(place) = self.rows.get_mut(first..first + ROW_WORDS) {
+            place.copy_from_slice(&row);
         }
         self.count += 1;
         number
@@ -204,20 +204,19 @@ impl Reader<'_> {
         Ok(self.put([2, first, others, 0]))
     }
 
+    /// Reads a statement. Its first byte leaves few words to compare with.
     fn statement(&mut self) -> Result<u32, Fault> {
-        self.peek();
-        let start = self.at;
-        let end = word_end(self.text, start);
-        self.at = end;
-        match &self.text[start..end] {
-            b"skip" => Ok(self.put([0, 0, 0, 0])),
-            b"set" => {
+        match self.peek() {
+            Some(b's') if self.takes(b"set") => {
                 let variable = self.variable()?;
                 self.expect(b"=")?;
                 let value = self.expression()?;
                 Ok(self.put([1, variable, value, 0]))
             }
-            b"if" => {
+            Some(b's') if self.takes(b"skip") => Ok(self.put([0, 0, 0, 0])),
+            Some(b's') if self.takes(b"settled") => self.output(0),
+            Some(b'p') if self.takes(b"provisional") => self.output(1),
+            Some(b'i') if self.takes(b"if") => {
                 let test = self.expression()?;
                 self.expect(b"then")?;
                 let then = self.block()?;
@@ -226,16 +225,14 @@ impl Reader<'_> {
                 self.expect(b"end")?;
                 Ok(self.put([3, test, then, otherwise]))
             }
-            b"while" => {
+            Some(b'w') if self.takes(b"while") => {
                 let test = self.expression()?;
                 self.expect(b"do")?;
                 let body = self.block()?;
                 self.expect(b"end")?;
                 Ok(self.put([4, test, body, 0]))
             }
-            b"settled" => self.output(0),
-            b"provisional" => self.output(1),
-            _ => Err(Fault(start)),
+            _ => Err(Fault(self.at)),
         }
     }
 
