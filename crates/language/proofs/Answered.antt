@@ -21,7 +21,8 @@ use Rattle.language.specs.Words.{Word}
 use Rattle.language.specs.Recipes.{Recipe}
 use Rattle.language.specs.Tables.{blockSize, tableOf, marksOf}
 use Rattle.language.specs.Readings.{wordsOf, Is, endOf, partAt, repeated, refused, Reading, untouched, laid, judged, sized, declared, readingOf, long, faulty, read}
-use Rattle.language.specs.Claims.{ExactlyRecipes, RefusedChangesNothing, Stands, AcceptedStands}
+use Rattle.language.specs.Claims.{ExactlyRecipes, FaultIsFirst, RefusedChangesNothing, Stands, AcceptedStands}
+use Rattle.language.proofs.Faults.{first}
 use Rattle.language.proofs.Declared.{marks-declared}
 use Rattle.language.proofs.TableLaws.{table-is-judged, rows-are-the-tree, table-words}
 
@@ -113,3 +114,8 @@ accepted-stands meant text table a (read h r is) e = stands (answered meant text
           ∙ drop-append-seam (tableOf r) (drop (length (tableOf r)) table)
           ∙ ap (λ (n : ℕ). drop n table) (sym size);
     }
+
+pub fault-is-first : FaultIsFirst
+fault-is-first meant text table a (long h) e = absurd (omega arith)
+fault-is-first meant text table a (faulty h rest f) e = (rest, refl, first f)
+fault-is-first meant text table a (read h r is) e = absurd (exactly-recipes meant text table _ (read h r is) h .0 r is e)

@@ -2,9 +2,10 @@
 use Rattle.language.specs.Claims.{Claims}
 use Rattle.language.proofs.Unambiguous.{single-reading}
 use Rattle.language.proofs.OneAnswer.{one-answer}
-use Rattle.language.proofs.Faults.{fault-is-first, part-is-the-word}
-use Rattle.language.proofs.Answered.{exactly-recipes, refused-changes-nothing, accepted-stands}
+use Rattle.language.proofs.Faults.{part-is-the-word}
+use Rattle.language.proofs.Answered.{exactly-recipes, fault-is-first, refused-changes-nothing, accepted-stands}
 use Rattle.language.proofs.TableLaws.{table-is-judged, rows-are-the-tree}
+use Rattle.language.proofs.FaultCases.{faults-found}
 use Rattle.language.proofs.Evaluation.{texts-read, texts-refused, words-told}
 
 pub claims : Claims
@@ -20,5 +21,6 @@ claims = record {
   rows-are-the-tree = rows-are-the-tree;
   texts-read = texts-read;
   texts-refused = texts-refused;
+  faults-found = faults-found;
   words-told = words-told;
 }

@@ -15,7 +15,7 @@ texts-read = (refl, refl, refl, refl, refl, refl)
 
 pub texts-refused : TextsRefused
 unfolding rules isDigit onByte digitsOn begun numberAt isBlank isLetter isJoining joins grown words.onByte wordsFrom fixed same wholeNumber counted among tokenOf operatorNumber tableOf makesProvisional marksFrom marksOf onDeclared repeated laid judged sized declared readingOf partAt
-texts-refused = (refl, refl, refl)
+texts-refused = (refl, refl, refl, refl, refl)
 
 pub words-told : WordsTold
 unfolding isDigit onByte digitsOn begun numberAt fixed same wholeNumber counted among tokenOf

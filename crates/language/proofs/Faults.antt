@@ -11,8 +11,8 @@ use borrow.Author.Tests.{ne-eqb}
 use Rattle.lines.specs.Numbers.{isDigit}
 use Rattle.language.specs.Words.{Word, word, isBlank, isLetter, isJoining, joins, grown, onByte, wordsFrom}
 use Rattle.language.specs.Tokens.{tokenOf, tokens}
-use Rattle.language.specs.Readings.{Begun, partAt}
-use Rattle.language.specs.Claims.{FaultIsFirst, PartIsTheWord}
+use Rattle.language.specs.Readings.{Begun, Fault, partAt}
+use Rattle.language.specs.Claims.{First, PartIsTheWord}
 use Rattle.language.proofs.OneAnswer.{begun-first}
 
 -- ---- the first
@@ -23,20 +23,20 @@ begun-fewer k words b =
     let split : tokens words ≡ tokens (take k words) ++ tokens (drop k words) = ap tokens (sym (take-append-drop k words)) ∙ simp map-append in
     begun-first (tokens (take k words)) (tokens (drop k words)) (rw split at b)
 
-pub fault-is-first : FaultIsFirst
-fault-is-first words rest f k h = (before, beyond rest refl)
+pub first : {words rest : List Word} → Fault words rest → First words rest
+first {words} {rest} f = record { before = f .before; split = f .split; begun = before; stuck = λ k many h. beyond rest refl k many h }
   where
-    before : k ≤ length (f .before) → Begun (tokens (take k words))
-    before few =
+    before : (k : ℕ) → k ≤ length (f .before) → Begun (tokens (take k words))
+    before k few =
         let front : take k words ≡ take k (f .before) = ap (take k) (f .split) ∙ take-append-le k (f .before) rest few in
         subst (λ (l : List Word). Begun (tokens l)) (sym front) (begun-fewer k (f .before) (f .begun))
 
-    beyond : (last : List Word) → rest ≡ last → length (f .before) < k → Begun (tokens (take k words)) → ⊥
-    beyond [] e many b =
+    beyond : (last : List Word) → rest ≡ last → (k : ℕ) → length (f .before) < k → k ≤ length words → Begun (tokens (take k words)) → ⊥
+    beyond [] e k many h b =
         let all : length words ≡ length (f .before) + length rest = ap length (f .split) ∙ length-append (f .before) rest in
         let none : length rest ≡ 0 = ap length e in
         omega arith
-    beyond (w ∷ last) e many b =
+    beyond (w ∷ last) e k many h b =
         let size : k ≡ length (f .before) + suc (k - (length (f .before) + 1)) = omega arith in
         let front : take k words ≡ f .before ++ w ∷ take (k - (length (f .before) + 1)) last =
         ap₂ take size (f .split ∙ ap (λ (l : List Word). f .before ++ l) e) ∙ take-append-add (f .before) (w ∷ last) (suc (k - (length (f .before) + 1))) in

@@ -7,5 +7,6 @@ pub mod TableLaws
 pub mod Faults
 mod Declared
 pub mod Answered
+mod FaultCases
 pub mod Evaluation
 pub mod Claims

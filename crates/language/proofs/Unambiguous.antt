@@ -11,7 +11,7 @@ use Rattle.language.specs.Recipes as recipe
 use Rattle.language.specs.Claims.{SingleReading}
 
 -- two words that differ were said to be the same
-clash : {A : Type 0} → _≡_ {A = ℕ} 0 1 → A
+pub clash : {A : Type 0} → _≡_ {A = ℕ} 0 1 → A
 clash e = absurd (omega arith)
 
 -- ---- expressions

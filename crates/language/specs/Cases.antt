@@ -6,13 +6,14 @@ use mathlib.Core.Path.{_≡_}
 use lib.ListN.{replicate}
 use Rattle.rules.specs.declared.Operator.{Operator}
 use Rattle.rules.specs.Trees.{constant, variable, binary}
-use Rattle.rules.specs.Cases.{Quad, wordsOf}
+use Rattle.rules.specs.Cases.{Quad}
+use Rattle.rules.specs.Cases as tables
 use Rattle.language.specs.Limits.{declaredAgain, tableTooShort}
 use Rattle.language.specs.Tokens.{Token, numeral, input, opening, unknown, tokenOf}
 use Rattle.language.specs.Tokens as word
 use Rattle.language.specs.Recipes.{skip, set, if, while, one, more, plain, Recipe}
 use Rattle.language.specs.Recipes as recipe
-use Rattle.language.specs.Readings.{Is, endOf, refused, untouched, Reading, readingOf}
+use Rattle.language.specs.Readings.{wordsOf, Is, Fault, endOf, refused, untouched, Reading, readingOf}
 
 -- in v1 provisional;
 -- settled v0; provisional v1
@@ -33,11 +34,11 @@ wholeRows = (9, 0, 0, 0) ∷ (5, 0, 0, 0) ∷ (9, 1, 0, 0) ∷ (5, 1, 2, 0) ∷ 
 abbrev accepted : List ℕ → ℕ → ℕ → List Quad → Reading
 accepted text rows marks quads = record {
   said = record { refusal = 0; at = 0; rows = rows; marks = marks; part = endOf text };
-  table = wordsOf quads;
+  table = tables.wordsOf quads;
 }
 
--- in v0; in v1 settled; set v2 = (v0 + 10); if (v2 < 3) then s
--- kip else while v2 do settled 5; skip end end
+-- in v0; in v1 settled; set v2 = (v0 + 10); if (v2 < 3) then
+-- skip else while v2 do settled 5; skip end end
 abbrev longText : List ℕ
 longText =
     105 ∷ 110 ∷ 32 ∷ 118 ∷ 48 ∷ 59 ∷ 32 ∷ 105 ∷ 110 ∷ 32 ∷ 118 ∷ 49 ∷ 32 ∷ 115 ∷ 101 ∷ 116 ∷ 116 ∷ 108 ∷ 101 ∷ 100 ∷ 59 ∷ 32 ∷ 115 ∷ 101 ∷ 116 ∷ 32 ∷ 118 ∷ 50 ∷ 32 ∷ 61 ∷ 32 ∷ 40 ∷ 118 ∷ 48 ∷ 32 ∷ 43 ∷ 32 ∷ 49 ∷ 48 ∷ 41 ∷ 59 ∷ 32 ∷ 105 ∷ 102 ∷ 32 ∷ 40 ∷ 118 ∷ 50 ∷ 32 ∷ 60 ∷ 32 ∷ 51 ∷ 41 ∷ 32 ∷ 116 ∷ 104 ∷ 101 ∷ 110 ∷ 32 ∷ 115 ∷ 107 ∷ 105 ∷ 112 ∷ 32 ∷ 101 ∷ 108 ∷ 115 ∷ 101 ∷ 32 ∷ 119 ∷ 104 ∷ 105 ∷ 108 ∷ 101 ∷ 32 ∷ 118 ∷ 50 ∷ 32 ∷ 100 ∷ 111 ∷ 32 ∷ 115 ∷ 101 ∷ 116 ∷ 116 ∷ 108 ∷ 101 ∷ 100 ∷ 32 ∷ 53 ∷ 59 ∷ 32 ∷ 115 ∷ 107 ∷ 105 ∷ 112 ∷ 32 ∷ 101 ∷ 110 ∷ 100 ∷ 32 ∷ 101 ∷ 110 ∷ 100 ∷ []
@@ -93,14 +94,31 @@ twiceRecipe = record {
   block = one skip;
 }
 
--- The claim: a variable that is declared again is handed back, and so is the end of a text for whose rows the table has a word too
--- few; the table is left as it was.
+-- while 0 do while 0 do while 0 do while 0 do skip end end end end
+abbrev deepText : List ℕ
+deepText =
+    119 ∷ 104 ∷ 105 ∷ 108 ∷ 101 ∷ 32 ∷ 48 ∷ 32 ∷ 100 ∷ 111 ∷ 32 ∷ 119 ∷ 104 ∷ 105 ∷ 108 ∷ 101 ∷ 32 ∷ 48 ∷ 32 ∷ 100 ∷ 111 ∷ 32 ∷ 119 ∷ 104 ∷ 105 ∷ 108 ∷ 101 ∷ 32 ∷ 48 ∷ 32 ∷ 100 ∷ 111 ∷ 32 ∷ 119 ∷ 104 ∷ 105 ∷ 108 ∷ 101 ∷ 32 ∷ 48 ∷ 32 ∷ 100 ∷ 111 ∷ 32 ∷ 115 ∷ 107 ∷ 105 ∷ 112 ∷ 32 ∷ 101 ∷ 110 ∷ 100 ∷ 32 ∷ 101 ∷ 110 ∷ 100 ∷ 32 ∷ 101 ∷ 110 ∷ 100 ∷ 32 ∷ 101 ∷ 110 ∷ 100 ∷ []
+
+abbrev deepRecipe : Recipe
+deepRecipe = record {
+  declarations = [];
+  block = one (while (constant 0) (one (while (constant 0) (one (while (constant 0) (one (while (constant 0) (one skip))))))));
+}
+
+-- The claim: a variable that is declared again is handed back, and so is the end of a text that nests its loops too deep, or for whose
+-- rows the table has a word too few; the table is left as it was.
 abbrev pub TextsRefused : Type 0
 TextsRefused =
     Is twiceText twiceRecipe
     × (readingOf false twiceText twiceRecipe (replicate 4 7)
     ≡ untouched (refused declaredAgain 0 (record { start = 10; size = 2 })) (replicate 4 7))
+    × Is deepText deepRecipe
+    × (readingOf false deepText deepRecipe (replicate 4 7) ≡ untouched (refused 5 8 (endOf deepText)) (replicate 4 7))
     × (readingOf false wholeText wholeRecipe (replicate 19 7) ≡ untouched (refused tableTooShort 0 (endOf wholeText)) (replicate 19 7))
+
+-- The claim: the text `)` is at fault at its only word, and the empty text at its end.
+abbrev pub FaultsFound : Type 0
+FaultsFound = Fault (wordsOf (41 ∷ [])) (wordsOf (41 ∷ [])) × Fault (wordsOf []) []
 
 -- a word's bytes, and what it is
 abbrev told : List ℕ → Token → Type 0

@@ -17,7 +17,7 @@ use Rattle.language.specs.Tokens.{tokens}
 use Rattle.language.specs.Recipes.{Recipe}
 use Rattle.language.specs.Tables.{blockSize, tableOf, blockTree, isDeclaredProvisional}
 use Rattle.language.specs.Readings.{wordsOf, Is, Begun, Fault, handed, partAt, Reading, Reads}
-use Rattle.language.specs.Cases.{TextsRead, TextsRefused, WordsTold}
+use Rattle.language.specs.Cases.{TextsRead, TextsRefused, FaultsFound, WordsTold}
 
 -- 13.21: No two recipes are the same words, ..
 abbrev pub SingleReading : Type 0
@@ -35,12 +35,20 @@ ExactlyRecipes =
     (meant : Bool) (text table : List ℕ) (a : Reading) → Reads meant text table a → length text ≤ mostTextBytes
     → ((r : Recipe) → Is text r → a .said .refusal ≡ faultyWord → ⊥) × ((a .said .refusal ≡ faultyWord → ⊥) → (r : Recipe) × Is text r)
 
--- As many words as stand before the fault, or fewer, can be gone on with to a recipe; with the faulty word, or more, they cannot.
--- 13.13: .. the faulty word is the first with which no recipe begins that begins with the words before it, ..
+-- As many words as stand before a place, or fewer, can be gone on with to a recipe; with the word there, or more, they cannot.
+pub record First (words rest : List Word) : Type 0 where
+  pub before : List Word
+  pub split : words ≡ before ++ rest
+  pub begun : (k : ℕ) → k ≤ length before → Begun (tokens (take k words))
+  pub stuck : (k : ℕ) → length before < k → k ≤ length words → Begun (tokens (take k words)) → ⊥
+
+-- What is handed back with 10 stands at that place.
+-- 13.13: .. the faulty word is the first with which no recipe begins that begins with the words before it, and where there
+-- is none such the fault is at the end.
 abbrev pub FaultIsFirst : Type 0
 FaultIsFirst =
-    (words rest : List Word) (f : Fault words rest) (k : ℕ) → k ≤ length words
-    → (k ≤ length (f .before) → Begun (tokens (take k words))) × (length (f .before) < k → Begun (tokens (take k words)) → ⊥)
+    (meant : Bool) (text table : List ℕ) (a : Reading) → Reads meant text table a → a .said .refusal ≡ faultyWord
+    → (rest : List Word) × (a .said .part ≡ partAt text rest) × First (wordsOf text) rest
 
 -- 13.20: The faulty word is handed back as the part of the text where it stands, ..
 abbrev pub PartIsTheWord : Type 0
@@ -94,4 +102,5 @@ pub record Claims : Type 0 where
   pub rows-are-the-tree : RowsAreTheTree
   pub texts-read : TextsRead
   pub texts-refused : TextsRefused
+  pub faults-found : FaultsFound
   pub words-told : WordsTold
