@@ -11,8 +11,8 @@
  * are too short, the status is the answer's.
  *
  * Of every function:
- * - It is reentrant and has no state: calls that lend different buffers may run at the same time, and a table may be lent to
- *   many calls at once.
+ * - It is reentrant and has no state: calls that lend different buffers may run at the same time, and a text, or a table that none of
+ *   them writes, may be lent to many calls at once.
  * - It reads and writes nothing but what it is lent and at most BUZORINDE_JUDGE_STACK, BUZORINDE_CHECK_STACK, BUZORINDE_RUN_STACK or
  *   BUZORINDE_READ_STACK bytes of the caller's stack. It allocates nothing, has no globals, makes no system call, and calls nothing
  *   outside the library but memcpy and memset.

@@ -43,7 +43,7 @@ blockSize b = blockBelow b + 1
 
 -- ---- the rows of each, the first of them at row base; a child's rows come before its own, in reading order
 
--- an unknown kind has no number, and stands in no row
+-- an unknown kind stands in no row, and 11 is the number of none
 -- 2.2: The kinds have these numbers, and every other number is an unknown kind.
 abbrev pub kindNumber : Kind → ℕ
 kindNumber Kind.Skip = 0

@@ -9,7 +9,7 @@ use Rattle.lines.specs.Numbers.{isDigit}
 unfoldable pub isBlank : ℕ → Bool
 isBlank byte = eqb byte 32 || eqb byte 10
 
--- A to Z or a to z
+-- 13.2: A letter, A to Z or a to z, ..
 unfoldable pub isLetter : ℕ → Bool
 isLetter byte = (leb 65 byte && leb byte 90) || (leb 97 byte && leb byte 122)
 
@@ -36,7 +36,8 @@ grown at byte (first ∷ words) = word at (byte ∷ first .bytes) ∷ words
 
 -- The words of a text from its byte at a place on, from those after it.
 -- 13.1: .. a space or an LF is in no word.
--- 13.2: A letter or a digit that stands next to another is in one word with it; every other byte is a word by itself.
+-- 13.2: A letter, A to Z or a to z, or a digit that stands next to another is in one word with it; every other byte is a
+-- word by itself.
 unfoldable pub onByte : Bool → Bool → ℕ → ℕ → List Word → List Word
 onByte true joined at byte words = words
 onByte false true at byte words = grown at byte words
