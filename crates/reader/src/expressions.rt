@@ -24,11 +24,12 @@ ghost use Rattle.reader.specs.Machine.{expr};
 ghost use Rattle.reader.specs.Steps.{Asked, Stepped, expressions};
 ghost use Rattle.reader.specs.Frames.{mostHeld, Ready, Turned};
 
+// 13.12: Refusal 9, at 0: the text has more than 16,384 bytes.
 pub const MOST_TEXT: usize = 16384;
 
 // As many parentheses as a text can open and close again within each other, four bytes each. Of more the outer ones are never come
 // back to, and their entries are laid over.
-pub const MOST_HELD: usize = 4096;
+pub const MOST_HELD: usize = MOST_TEXT / 4;
 
 // An entry has room for so many operators beside a row.
 const SIGNS: u16 = 8;

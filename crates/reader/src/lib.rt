@@ -32,7 +32,7 @@ ghost use Rattle.reader.specs.declared.head.Head.{Head};
 ghost use Rattle.reader.specs.Frames.{mostHeld};
 ghost use Rattle.reader.specs.Heads.{HeadRead};
 ghost use Rattle.rules.specs.Limits.{tableWords};
-ghost use Rattle.reader.specs.Wholes.{turnedAway, blamed, answered, Made};
+ghost use Rattle.reader.specs.Wholes.{turnedAway, blamed, Made};
 
 const TOO_LONG: u32 = 9;
 
@@ -124,7 +124,7 @@ fn read_body(
     requires { ⌜
         (length (now text) ≤ mostTextBytes) × HeadRead (now text) (Head.Over s) × (length (now rows) ≡ tableWords)
         × (length (now held) ≡ mostHeld) ⌝ }
-    ensures { λ r. ⌜ Reads false (now (text .entry)) (now (table .entry)) (answered r (now (table .exit))) ⌝ }
+    ensures { λ r. ⌜ Reads false (now (text .entry)) (now (table .entry)) (record { said = r; table = now (table .exit) }) ⌝ }
 {
     let block = read_block(text, s.at, 0, rows, held);
     match block {
@@ -144,7 +144,7 @@ fn read_body(
 // Reads a recipe's text into a table: how many rows it has and its start marks; or a refusal, and then the table is as it was lent.
 // 13.8: .. neither means settled.
 pub fn read_text(text: &[u8], table: &mut [u32]) -> Said
-    ensures { λ r. ⌜ Reads false (now (text .entry)) (now (table .entry)) (answered r (now (table .exit))) ⌝ }
+    ensures { λ r. ⌜ Reads false (now (text .entry)) (now (table .entry)) (record { said = r; table = now (table .exit) }) ⌝ }
 {
     if text.len() > MOST_TEXT {
         return refused(TOO_LONG, 0, text.len(), text.len());

@@ -1,8 +1,8 @@
 //! Recipe runs under watch: safe functions over the proved static library.
 //!
 //! Each function here lends a buffer for the answer, and a run a memory, of the length that the library asks for, so that every call
-//! answers, and turns the answer's words into the enum that they stand for. What the header `buzorinde.h` says of every function of the library
-//! is true of these too, but for the little stack that they take themselves.
+//! answers, and turns the answer's words into the enum that they stand for. What the header `buzorinde.h` says of every function of
+//! the library is true of these too, but for the little stack that they take themselves.
 
 mod numbers;
 
