@@ -1,5 +1,5 @@
 -- The places of a text: how the words from one place on go on from another, the word that stands at one, and where no recipe goes on.
-use Prim.Native.Nat.{ℕ, _+_, _-_, _<_}
+use Prim.Native.Nat.{ℕ, _+_, _-_, _≤_, _<_}
 use native.Mathlib.Omega.{arith}
 use mathlib.Core.Bool.{Bool, true, false}
 use mathlib.Core.List.{List, [], _∷_, _++_, append-assoc}
@@ -105,6 +105,17 @@ module _ {text key : List ℕ} {at start : ℕ} {r : Bool} {t : Token} (begun : 
 
   pub missing-start : r ≡ false → Missing text at t
   missing-start no′ = missing-key (cut-begun begun (cut-found begun .1)) refl (told-word .0) no′ k
+
+-- the first place where no blank stands, from a place inside the text on, is no earlier
+pub begun-on : {text : List ℕ} {at start : ℕ} → Begun text at start → at ≤ length text → at ≤ start
+begun-on {text} {at} {start} begun inside = by (ltb start (length text)) refl
+  where
+    by : (b : Bool) → ltb start (length text) ≡ b → at ≤ start
+    by true h = begun .later (ltb-true start (length text) h)
+    by false h = let k = ltb-false start (length text) h in omega arith
+
+pub later-begun : {text : List ℕ} {at start : ℕ} → Begun text at start → Later text at start
+later-begun begun = record { between = []; split = sym (begun .same) }
 
 -- ---- where no recipe goes on
 

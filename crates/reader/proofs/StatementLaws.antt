@@ -8,12 +8,13 @@ use lib.ListN.{length, length-append}
 use Rattle.rules.specs.declared.Operator.{Operator}
 use Rattle.rules.specs.Cases.{Quad}
 use Rattle.rules.specs.Trees.{Expr, variable}
+use Rattle.language.specs.Words.{Word}
 use Rattle.language.specs.Tokens as word
 use Rattle.language.specs.Tokens.{Token, counted, tokens}
 use Rattle.language.specs.Recipes.{Statement, skip, set, if, while, Block, one, more, exprTokens, statementTokens, blockTokens}
 use Rattle.language.specs.Recipes as recipe
 use Rattle.language.specs.Tables.{exprBelow, exprSize, statementBelow, statementSize, blockBelow, blockSize, exprRows, statementRows, blockRows}
-use Rattle.spans.specs.Cut.{from}
+use Rattle.spans.specs.Cut.{from, Begun}
 use Rattle.reader.specs.Machine.{Closer, atElse, atEnd, Symbol, expr, statement, exactly, name, rest, onStatement, closing, onRest, run}
 use Rattle.reader.specs.Rows.{rowPut, rowsPut}
 use Rattle.reader.specs.Steps.{Missing, Sort, expressions, statements, blocks, Later, Asked, Read, Stuck, Stepped, Over, BlockStepped}
@@ -21,7 +22,7 @@ use Rattle.reader.specs.Statements.{Spells, Led, Ended, Outputs, settled
 use Rattle.reader.specs.declared.expressions.Step.{Step}
 use Rattle.reader.proofs.RunLaws.{joined, run-exactly, run-expr, run-statement, run-block, run-more, run-else, run-if, run-while, run-set, run-name, run-settled, run-provisional}
 use Rattle.reader.proofs.RowLaws.{rowsPut-append, rowsPut-length, exprRows-length, statementRows-length, blockRows-length}
-use Rattle.reader.proofs.PlaceLaws.{later-self, later-on, stuck-more, stuck-past, stuck-here, stuck-word, lacks-word}
+use Rattle.reader.proofs.PlaceLaws.{later-self, later-on, begun-on, later-begun, stuck-more, stuck-past, stuck-here, stuck-word, lacks-word}
 
 -- parts with a word after them
 abbrev pub endedBy : {Tree : Type 0} → Token → Sort Tree → Sort Tree
@@ -305,6 +306,24 @@ module _ {text : List ℕ} where
       {at next count total : ℕ} {rows left : List ℕ} → Read statements text at count rows next total left → Read blocks text at count rows next total left
   one-read r =
       record { tree = one (r .tree); is = r .is; later = r .later; put = r .put; counted = r .counted; inside = r .inside; few = r .few }
+
+  -- blanks after what was read make no difference
+  pub begun-read :
+      {Tree : Type 0} {sort : Sort Tree} {at count next here total : ℕ} {rows left : List ℕ} → Read sort text at count rows next total left
+      → Begun text next here → Read sort text at count rows here total left
+  begun-read {sort = sort} r begun =
+      record {
+        tree = r .tree;
+        is = r .is ∙ ap (λ (l : List Word). sort .words (r .tree) ++ tokens l) (sym (begun .same));
+        later = later-on (r .later) (later-begun begun);
+        put = r .put;
+        counted = r .counted;
+        inside = begun .inside;
+        few = omega (arith, r .few, begun-on begun (r .inside));
+      }
+
+  pub over-begun : {next here : ℕ} → Over text next → Begun text next here → Over text here
+  over-begun over begun first later e = over first later (ap tokens (sym (begun .same)) ∙ e)
 
   pub more-read :
       {at a b next count stated total : ℕ} {rows r s left : List ℕ} → Read statements text at count rows a stated r → Led text a word.semicolon b

@@ -7,7 +7,7 @@ use lib.ListN.{length, getD}
 use Rattle.language.specs.Words.{isBlank, isJoining}
 use Rattle.language.specs.Tokens as word
 use Rattle.language.specs.Tokens.{Token, same, tokenOf, tokens}
-use Rattle.spans.specs.Cut.{from, part, Cut}
+use Rattle.spans.specs.Cut.{from, part, Begun, Cut}
 use Rattle.spans.specs.declared.Span.{Span}
 use Rattle.reader.specs.Machine.{isWord, statement}
 use Rattle.reader.specs.Steps.{statements, Later, Missing, Stepped}
@@ -44,9 +44,10 @@ pub record Led (text : List ℕ) (at : ℕ) (t : Token) (next : ℕ) : Type 0 wh
   pub on : at < next
   pub inside : next ≤ length text
 
+-- This word stands at a place, or is missing there; then the place after the blanks is told.
 abbrev pub Expected : List ℕ → ℕ → Token → Found → Type 0
 Expected text at t (Found.Next next) = Led text at t next
-Expected text at t Found.Missing = Missing text at t
+Expected text at t (Found.Missing here) = Missing text at t × Begun text at here
 
 -- what is said of the word at a place, whichever word the key is
 abbrev pub Looked : List ℕ → ℕ → List ℕ → Found → Type 0

@@ -58,7 +58,7 @@ fn close_level(text: &[u8], from: usize, provisional: bool) -> Level
     let found = expect(text, from, b";");
     match found {
         Found::Next(next) => Level::Over { provisional, next },
-        Found::Missing => Level::Faulty(from),
+        Found::Missing(_) => Level::Faulty(from),
     }
 }
 
@@ -167,7 +167,7 @@ pub fn read_head(text: &[u8]) -> Head
     loop {
         let found = expect(text, s.at, b"in");
         match found {
-            Found::Missing => return Head::Over(s),
+            Found::Missing(_) => return Head::Over(s),
             Found::Next(next) => {
                 let declared = read_declaration(text, next);
                 match declared {

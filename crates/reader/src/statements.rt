@@ -39,7 +39,7 @@ fn ended(text: &[u8], step: Step, key: &[u8]) -> Step
         Step::Next { at, count } => {
             let found = expect(text, at, key);
             match found {
-                Found::Missing => Step::Faulty(at),
+                Found::Missing(_) => Step::Faulty(at),
                 Found::Next(next) => Step::Next { at: next, count },
             }
         }
@@ -96,7 +96,7 @@ fn read_set(
         } => {
             let equal = expect(text, end, b"=");
             match equal {
-                Found::Missing => Step::Faulty(end),
+                Found::Missing(_) => Step::Faulty(end),
                 Found::Next(next) => {
                     let assigned = read_expression(text, next, count, rows, held);
                     match assigned {
@@ -260,8 +260,8 @@ pub fn read_block(
         } => {
             let more = expect(text, second, b";");
             match more {
-                Found::Missing => Step::Next {
-                    at: second,
+                Found::Missing(here) => Step::Next {
+                    at: here,
                     count: stated,
                 },
                 Found::Next(third) => {

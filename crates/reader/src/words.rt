@@ -8,10 +8,10 @@ ghost use Prim.Native.Nat.{_+_, _≤_};
 ghost use lib.ListN.{length};
 ghost use Rattle.reader.specs.Statements.{Compared, Looked};
 
-// The place after a word; or that another word stands there, or none.
+// The place after a word; or, where another word stands there or none, the place after the blanks, so that they are passed once.
 pub enum Found {
     Next(usize),
-    Missing,
+    Missing(usize),
 }
 
 // Whether the word that starts at a place is this key. Its end is not looked for: the key stands there, and the word does not go on.
@@ -42,5 +42,5 @@ pub fn expect(text: &[u8], from: usize, key: &[u8]) -> Found
     if is_word(text, start, key) {
         return Found::Next(start + key.len());
     }
-    Found::Missing
+    Found::Missing(start)
 }

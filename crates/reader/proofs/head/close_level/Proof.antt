@@ -33,7 +33,7 @@ returns-2 c =
     let at-expect = c .before .before in
     let args = at-expect .before .before .before .args in
     let found = at-expect .expect .ensures token.semicolon spells-semicolon in
-    lacks-word (subst (Expected (now (args .text)) (args .from) token.semicolon) (c .enum-told .given .1) found)
+    lacks-word (subst (Expected (now (args .text)) (args .from) token.semicolon) (c .enum-told .given .1) found .0)
 
 pub close-level-spec : {M : Type 1} → statement M
 close-level-spec =

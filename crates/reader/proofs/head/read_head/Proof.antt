@@ -38,7 +38,7 @@ returns c =
     let text = now (at-loop .before .before .args .text) in
     let missing =
     subst (Expected text (at-loop .loop .s .at) token.input) (c .enum-told .given .1) (at-expect .expect .ensures token.input spells-input) in
-    (at-loop .loop .inv, missing)
+    (at-loop .loop .inv, missing .0)
 
 enum-known-found : tie.Need-enum-known-found Inv-loop μ-loop
 enum-known-found c = search needs

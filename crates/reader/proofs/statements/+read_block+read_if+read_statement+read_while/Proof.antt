@@ -16,7 +16,7 @@ use Rattle.reader.specs.declared.expressions.Step.{Step}
 use Rattle.reader.specs.Statements.{Compared, Spells, Led, Outputs}
 use Rattle.reader.proofs.SpellLaws.{spells-skip, spells-set, spells-if, spells-then, spells-else, spells-end, spells-while, spells-doing, spells-settled, spells-provisional, spells-semicolon}
 use Rattle.reader.proofs.PlaceLaws.{led-start, missing-start, stuck-more}
-use Rattle.reader.proofs.StatementLaws.{endedBy, asked-on, asked-after, with-else, with-end, stuck-statement, stuck-tested, stuck-if, stuck-chosen, stuck-while, stuck-semicolon, lacks-statement, test-ended, block-ended, skip-read, if-read, while-read, one-read, more-read}
+use Rattle.reader.proofs.StatementLaws.{endedBy, asked-on, asked-after, with-else, with-end, stuck-statement, stuck-tested, stuck-if, stuck-chosen, stuck-while, stuck-semicolon, lacks-statement, test-ended, block-ended, skip-read, if-read, while-read, one-read, begun-read, over-begun, more-read}
 use borrow.Fn.Kinds.{In}
 use borrow.Fn.PlainCycle.{Measures, is, falls, and}
 use Rattle.reader.proofs.statements.read_block.Reads as read-block
@@ -170,24 +170,24 @@ module _ (t : ℕ) (c : read-block-lts.After-known-told2 (read-block-calls t) (r
   block-first = rw (c .before .step2 .given .1) at (c .before .before .before .read-statement .ensures .0)
 
 -- where a semicolon was read after it
-module _ (t : ℕ) (c : read-block-lts.After-known-told3 (read-block-calls t) (read-block-at t) read-block.Post) where
+module _ (t : ℕ) (c : read-block-lts.After-known-told4 (read-block-calls t) (read-block-at t) read-block.Post) where
   abbrev block-stated : read-block-lts.After-known-told2 (read-block-calls t) (read-block-at t) read-block.Post
   block-stated = c .before .before .before .before .before
 
-  block-more : Led (now (block-start t block-stated .args .text)) (block-place t block-stated) word.semicolon (c .before .more .given .0 .0)
-  block-more = rw (c .before .more .given .1) at (c .before .before .before .expect .ensures word.semicolon spells-semicolon)
+  block-more : Led (now (block-start t block-stated .args .text)) (block-place t block-stated) word.semicolon (c .before .more2 .given .0 .0)
+  block-more = rw (c .before .more2 .given .1) at (c .before .before .before .expect .ensures word.semicolon spells-semicolon)
 
   block-asked :
-      Asked (now (block-start t block-stated .args .text)) (c .before .more .given .0 .0) (block-count t block-stated) (block-rows t block-stated)
+      Asked (now (block-start t block-stated .args .text)) (c .before .more2 .given .0 .0) (block-count t block-stated) (block-rows t block-stated)
   block-asked = asked-after (asked-on (block-start t block-stated .pre .1 .0) (block-first t block-stated)) block-more
 
 -- where the block after it was read
-module _ (t : ℕ) (c : read-block-lts.After-known-told5 (read-block-calls t) (read-block-at t) read-block.Post) where
-  abbrev block-later : read-block-lts.After-known-told3 (read-block-calls t) (read-block-at t) read-block.Post
+module _ (t : ℕ) (c : read-block-lts.After-known-told6 (read-block-calls t) (read-block-at t) read-block.Post) where
+  abbrev block-later : read-block-lts.After-known-told4 (read-block-calls t) (read-block-at t) read-block.Post
   block-later = c .before .before .before .before .before .before
 
   block-others :
-      Read blocks (now (block-start t (block-stated t block-later) .args .text)) (block-later .before .more .given .0 .0)
+      Read blocks (now (block-start t (block-stated t block-later) .args .text)) (block-later .before .more2 .given .0 .0)
       (block-count t (block-stated t block-later)) (block-rows t (block-stated t block-later))
       (c .before .step4 .given .0 .0) (c .before .step4 .given .0 .1 .0) (c .before .before .before .read-block .last .1 .1 .1 .0)
       × Over (now (block-start t (block-stated t block-later) .args .text)) (c .before .step4 .given .0 .0)
@@ -210,11 +210,11 @@ read-block-slice-aggregate-expect t c = search needs
 read-block-expect-requires : (t : ℕ) → read-block-lts.Need-expect-requires (read-block-calls t) (read-block-at t) read-block.Post
 read-block-expect-requires t c κs = search needs
 
-read-block-enum-told : (t : ℕ) → read-block-lts.Need-enum-told (read-block-calls t) (read-block-at t) read-block.Post
-read-block-enum-told t c = search needs
-
 read-block-enum-known-more : (t : ℕ) → read-block-lts.Need-enum-known-more (read-block-calls t) (read-block-at t) read-block.Post
 read-block-enum-known-more t c = search needs
+
+read-block-enum-known-more-2 : (t : ℕ) → read-block-lts.Need-enum-known-more-2 (read-block-calls t) (read-block-at t) read-block.Post
+read-block-enum-known-more-2 t c = search needs
 
 read-block-read-block-requires : (t : ℕ) → read-block-lts.Need-read-block-requires (read-block-calls t) (read-block-at t) read-block.Post
 read-block-read-block-requires t c κs =
@@ -247,8 +247,8 @@ read-block-put-row-requires t c κs =
     let here = c .before in
     asked-on (block-asked t (block-later t here)) (block-others t here .0) .long
 
-read-block-add-t27 : (t : ℕ) → read-block-lts.Need-add-t27 (read-block-calls t) (read-block-at t) read-block.Post
-read-block-add-t27 t c =
+read-block-add-t28 : (t : ℕ) → read-block-lts.Need-add-t28 (read-block-calls t) (read-block-at t) read-block.Post
+read-block-add-t28 t c =
     let here = c .before .before in
     let a = asked-on (block-asked t (block-later t here)) (block-others t here .0) in
     omega (arith, a .inside, a .short, a .few)
@@ -262,10 +262,11 @@ read-block-returns t c =
 
 read-block-returns-2 : (t : ℕ) → read-block-lts.Need-returns-2 (read-block-calls t) (read-block-at t) read-block.Post
 read-block-returns-2 t c =
-    let after = c .before .before in
+    let known = c .before in
+    let after = known .before .before in
     let here = after .before .before in
-    let m = rw (c .enum-told .given .1) at (after .expect .ensures word.semicolon spells-semicolon) in
-    ((one-read (block-first t here), m), here .before .before .before .read-statement .ensures .1)
+    let m = rw (known .more .given .1) at (after .expect .ensures word.semicolon spells-semicolon) in
+    ((begun-read (one-read (block-first t here)) (m .1), over-begun (m .0) (m .1)), here .before .before .before .read-statement .ensures .1)
 
 read-block-returns-3 : (t : ℕ) → read-block-lts.Need-returns-3 (read-block-calls t) (read-block-at t) read-block.Post
 read-block-returns-3 t c =
@@ -837,15 +838,15 @@ pub +read-block+read-if+read-statement+read-while-spec : {M : Type 1} → cycle.
     (read-block-enum-known-step-2 t)
     (read-block-slice-aggregate-expect t)
     (read-block-expect-requires t)
-    (read-block-enum-told t)
     (read-block-enum-known-more t)
+    (read-block-enum-known-more-2 t)
     (read-block-read-block-requires t)
     (read-block-enum-known-step-3 t)
     (read-block-enum-known-step-4 t)
     (read-block-sub-put-row t)
     (read-block-sub-put-row-2 t)
     (read-block-put-row-requires t)
-    (read-block-add-t27 t)
+    (read-block-add-t28 t)
     (read-block-returns t)
     (read-block-returns-2 t)
     (read-block-returns-3 t)

@@ -28,7 +28,10 @@ returns-2 : tie.Need-returns-2
 returns-2 c =
     let after = c .before .before in
     let known = after .before .before .step2 .given .1 in
-    rw known (λ t k. (refl, rw (c .enum-told .given .1) at (after .expect .ensures t k)))
+    rw known
+    (λ t k.
+    let m = rw (c .enum-told .given .1) at (after .expect .ensures t k) in
+    (refl, m .0))
 
 returns-3 : tie.Need-returns-3
 returns-3 c =

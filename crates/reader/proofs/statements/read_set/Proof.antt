@@ -115,7 +115,7 @@ returns-2 c =
     let here = after .before .before in
     let m = rw (c .enum-told2 .given .1) at (after .expect .ensures (word.sign Operator.Equal) spells-equal) in (
       (λ at w. (
-        stuck-set w (stuck-name (exactly (word.sign Operator.Equal) ∷ expr ∷ []) (variable-led here) (stuck-more (lacks-word m) (expr ∷ []))),
+        stuck-set w (stuck-name (exactly (word.sign Operator.Equal) ∷ expr ∷ []) (variable-led here) (stuck-more (lacks-word (m .0)) (expr ∷ []))),
         start here .pre .0 .long,
       )),
       start here .pre .1,

@@ -22,7 +22,7 @@ returns c =
 returns-2 : tie.Need-returns-2
 returns-2 c =
     let asked = c .before in
-    λ t k. missing-start (asked .before .start-at .ensures) k (asked .is-word .ensures .0) (c .if1 .left)
+    λ t k. (missing-start (asked .before .start-at .ensures) k (asked .is-word .ensures .0) (c .if1 .left), asked .before .start-at .ensures)
 
 pub expect-spec : {M : Type 1} → statement M
 expect-spec = tie.close (tie.spec start-at-requires is-word-requires add-t7 returns returns-2)
