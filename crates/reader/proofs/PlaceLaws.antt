@@ -6,18 +6,19 @@ use mathlib.Core.List.{List, [], _∷_, _++_, append-assoc}
 use mathlib.Core.Logic.{_⊎_, inl, inr}
 use mathlib.Core.Path.{_≡_, refl, sym, ap, subst, _∙_}
 use lib.Dec.{ltb}
-use lib.ListN.{length, take, drop}
+use lib.ListN.{length, getD, take, drop}
 use borrow.Author.Tests.{ltb-true, ltb-false, eq-eqb}
 use Rattle.language.specs.Words.{Word}
 use Rattle.language.specs.Tokens as word
 use Rattle.language.specs.Tokens.{Token, fixed, same, counted, among, tokenOf, tokens}
 use Rattle.spans.specs.Cut.{from, part, Begun, Cut}
 use Rattle.spans.specs.declared.Span.{Span}
-use Rattle.spans.proofs.WordLaws.{cut-begun, cut-found}
+use Rattle.spans.proofs.WordLaws.{words-end, cut-begun, cut-found}
 use Rattle.reader.specs.Machine.{tag, isWord, Symbol, exactly, Advance, stop, expected, advance, mayEnd, endsAt, ended, onward, stuck, run}
 use Rattle.reader.specs.Steps.{Later, Missing, Stuck}
 use Rattle.reader.specs.Statements.{Compared, Spells, Led}
 use Rattle.reader.proofs.Clash.{clash}
+use Rattle.reader.proofs.StartLaws.{word-unlike}
 
 pub later-self : {text : List ℕ} {at : ℕ} → Later text at at
 later-self = record { between = []; split = refl }
@@ -117,6 +118,13 @@ begun-on {text} {at} {start} begun inside = by (ltb start (length text)) refl
 pub later-begun : {text : List ℕ} {at start : ℕ} → Begun text at start → Later text at start
 later-begun begun = record { between = []; split = sym (begun .same) }
 
+-- where its first byte is another than the key's
+pub missing-unlike :
+    {text letters : List ℕ} {at start letter : ℕ} {t : Token} → Begun text at start → Spells (letter ∷ letters) t → (getD text start 0 ≡ letter → ⊥) → Missing text at t
+missing-unlike begun k unlike =
+    let c = cut-found begun .1 in
+    missing-key (cut-begun begun c) refl (word-unlike _ (k .one) (begun .shown) c refl unlike) refl k
+
 -- ---- where no recipe goes on
 
 run-stops : (ts : List Token) (symbol : Symbol) (others : List Symbol) → mayEnd symbol ≡ false
@@ -159,6 +167,12 @@ module _ {text : List ℕ} {at : ℕ} where
       → Stuck text at (symbol ∷ []) at
   stuck-here symbol needed stops =
       record { stops = λ others. run-stops (tokens (from text at)) symbol others needed stops; later = later-self }
+
+  -- no word stands at the text's end
+  pub stuck-end : {start : ℕ} → Begun text at start → length text ≤ start → (symbol : Symbol) → mayEnd symbol ≡ false → Stuck text at (symbol ∷ []) at
+  stuck-end {start} begun over symbol needed =
+      stuck-here symbol needed
+      (λ first later e. let none : first ∷ later ≡ [] = sym e ∙ ap tokens (sym (begun .same) ∙ words-end text start over) in clash (cc))
 
   -- another word stands where this one is to stand
   pub lacks-word : {t : Token} → Missing text at t → Stuck text at (exactly t ∷ []) at

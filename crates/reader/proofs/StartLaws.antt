@@ -103,6 +103,16 @@ module _ (key : List ℕ) {text : List ℕ} {at : ℕ} {w : Span} (one : oneWord
       let here : part text at (at + length key) ≡ key = ap₂ (part text) (sym start) (sym end) ∙ is in
       true≢false (sym (ap (same key) here ∙ same-self key) ∙ h))
 
+  -- a word whose first byte is another than the key's
+  pub word-unlike : {letter : ℕ} {letters : List ℕ} → key ≡ letter ∷ letters → (getD text at 0 ≡ letter → ⊥) → false ≡ same key (part text (w .start) (w .end))
+  word-unlike {letter} {letters} spelled unlike =
+      is-not
+      (λ is (room, (start, end)).
+      let some = key-some key one in
+      let here : getD text at 0 ∷ part text (at + 1) (at + length key) ≡ letter ∷ letters =
+      sym (part-next text at (at + length key) (omega arith) room) ∙ ap₂ (part text) (sym start) (sym end) ∙ is ∙ spelled in
+      unlike (cc))
+
   -- the first byte is the key's
   first-joined : at < length text → same key (part text at (at + length key)) ≡ true → joins key ≡ true → isJoining (getD text at 0) ≡ true
   unfolding joins

@@ -213,24 +213,31 @@ pub fn read_statement(
         × (length (now (held .exit)) ≡ mostHeld) ⌝ }
 {
     let start = start_at(text, from);
-    if is_word(text, start, b"skip") {
-        put_row(rows, count, SKIP, 0, 0, 0);
-        return Step::Next {
-            at: start + 4,
-            count: count + 1,
-        };
+    if text.len() <= start {
+        return Step::Faulty(from);
     }
-    if is_word(text, start, b"set") {
-        return read_set(text, start + 3, count, rows, held);
+    // Three keys begin with this letter: the first byte spares comparing most keys.
+    if text[start] == b's' {
+        if is_word(text, start, b"set") {
+            return read_set(text, start + 3, count, rows, held);
+        }
+        if is_word(text, start, b"skip") {
+            put_row(rows, count, SKIP, 0, 0, 0);
+            return Step::Next {
+                at: start + 4,
+                count: count + 1,
+            };
+        }
+        if is_word(text, start, b"settled") {
+            return read_output(text, start + 7, count, SETTLED, rows, held);
+        }
+        return Step::Faulty(from);
     }
     if is_word(text, start, b"if") {
         return read_if(text, start + 2, count, rows, held);
     }
     if is_word(text, start, b"while") {
         return read_while(text, start + 5, count, rows, held);
-    }
-    if is_word(text, start, b"settled") {
-        return read_output(text, start + 7, count, SETTLED, rows, held);
     }
     if is_word(text, start, b"provisional") {
         return read_output(text, start + 11, count, PROVISIONAL, rows, held);

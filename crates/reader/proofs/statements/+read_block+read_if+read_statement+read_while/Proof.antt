@@ -5,8 +5,8 @@ use borrow.Author.Needs.{needs}
 use native.Mathlib.Omega.{arith}
 use mathlib.Core.Bool.{Bool, true, false}
 use mathlib.Core.List.{List, [], _∷_}
-use mathlib.Core.Path.{_≡_}
-use lib.ListN.{length}
+use mathlib.Core.Path.{_≡_, refl}
+use lib.ListN.{length, getD}
 use denote.Ref.{now}
 use Rattle.language.specs.Tokens as word
 use Rattle.language.specs.Tokens.{Token}
@@ -15,7 +15,7 @@ use Rattle.reader.specs.Steps.{Missing, expressions, statements, blocks,
 use Rattle.reader.specs.declared.expressions.Step.{Step}
 use Rattle.reader.specs.Statements.{Compared, Spells, Led, Outputs}
 use Rattle.reader.proofs.SpellLaws.{spells-skip, spells-set, spells-if, spells-then, spells-else, spells-end, spells-while, spells-doing, spells-settled, spells-provisional, spells-semicolon}
-use Rattle.reader.proofs.PlaceLaws.{led-start, missing-start, stuck-more}
+use Rattle.reader.proofs.PlaceLaws.{led-start, missing-start, stuck-more, missing-unlike, stuck-end}
 use Rattle.reader.proofs.StatementLaws.{endedBy, asked-on, asked-after, with-else, with-end, stuck-statement, stuck-tested, stuck-if, stuck-chosen, stuck-while, stuck-semicolon, lacks-statement, test-ended, block-ended, skip-read, if-read, while-read, one-read, begun-read, over-begun, more-read}
 use borrow.Fn.Kinds.{In}
 use borrow.Fn.PlainCycle.{Measures, is, falls, and}
@@ -124,16 +124,16 @@ read-statement-calls t = (
   start-at-reads.Learnt,
   is-word-reads.Asked,
   is-word-reads.Learnt,
-  put-row-reads.Asked,
-  put-row-reads.Learnt,
   read-set-reads.Asked,
   read-set-reads.Learnt,
+  put-row-reads.Asked,
+  put-row-reads.Learnt,
+  read-output-reads.Asked,
+  read-output-reads.Learnt,
   read-if-below t,
   read-if.Post,
   read-while-below t,
   read-while.Post,
-  read-output-reads.Asked,
-  read-output-reads.Learnt,
 )
 
 abbrev read-while-calls : ℕ → read-while-lts.Claims
@@ -515,179 +515,206 @@ module _ (t : ℕ) (c : read-statement-lts.After-start-at (read-statement-calls 
       → Missing (now (statement-start .args .text)) (statement-start .args .from) first
   statement-missing compared no′ k = missing-start (c .start-at .ensures) k compared no′
 
+  statement-unlike :
+      {letter : ℕ} {letters : List ℕ} {first : Token} → Spells (letter ∷ letters) first
+      → (getD (now (statement-start .args .text)) (c .start-at .result) 0 ≡ letter → ⊥) → Missing (now (statement-start .args .text)) (statement-start .args .from) first
+  statement-unlike k unlike = missing-unlike (c .start-at .ensures) k unlike
+
 read-statement-start-at-requires : (t : ℕ) → read-statement-lts.Need-start-at-requires (read-statement-calls t) (read-statement-at t) read-statement.Post
 read-statement-start-at-requires t c κs = search needs
+
+read-statement-returns : (t : ℕ) → read-statement-lts.Need-returns (read-statement-calls t) (read-statement-at t) read-statement.Post
+read-statement-returns t c =
+    let here = c .before in
+    let start = statement-start t here in
+    ((stuck-end (here .start-at .ensures) (c .if1 .taken) statement refl, start .pre .1 .0 .long), start .pre .1 .1)
+
+read-statement-shared-slice-read-if2 : (t : ℕ) → read-statement-lts.Need-shared-slice-read-if2 (read-statement-calls t) (read-statement-at t) read-statement.Post
+read-statement-shared-slice-read-if2 t c = c .before .if1 .left
 
 read-statement-slice-aggregate-is-word : (t : ℕ) → read-statement-lts.Need-slice-aggregate-is-word (read-statement-calls t) (read-statement-at t) read-statement.Post
 read-statement-slice-aggregate-is-word t c = search needs
 
 read-statement-is-word-requires : (t : ℕ) → read-statement-lts.Need-is-word-requires (read-statement-calls t) (read-statement-at t) read-statement.Post
-read-statement-is-word-requires t c κs = c .before .start-at .ensures .inside
-
-read-statement-put-row-requires : (t : ℕ) → read-statement-lts.Need-put-row-requires (read-statement-calls t) (read-statement-at t) read-statement.Post
-read-statement-put-row-requires t c κs =
-    statement-start t (c .before .before .before .before) .pre .1 .0 .long
-
-read-statement-add-t18 : (t : ℕ) → read-statement-lts.Need-add-t18 (read-statement-calls t) (read-statement-at t) read-statement.Post
-read-statement-add-t18 t c =
-    let taken = c .before .before in
-    omega (arith, taken .before .is-word .ensures .1 (taken .if1 .taken))
-
-read-statement-add-t19 : (t : ℕ) → read-statement-lts.Need-add-t19 (read-statement-calls t) (read-statement-at t) read-statement.Post
-read-statement-add-t19 t c =
-    let a = statement-start t (c .before .before .before .before .before) .pre .1 .0 in
-    omega (arith, a .inside, a .short, a .few)
-
-read-statement-returns : (t : ℕ) → read-statement-lts.Need-returns (read-statement-calls t) (read-statement-at t) read-statement.Post
-read-statement-returns t c =
-    let asked = c .before .before .before in
-    let here = asked .before .before in (
-      skip-read (statement-led t here (asked .is-word .ensures .0) (c .before .before .if1 .taken) spells-skip) (c .put-row .ensures),
-      statement-start t here .pre .1 .1,
-    )
-
-read-statement-slice-aggregate-is-word-2 :
-    (t : ℕ) → read-statement-lts.Need-slice-aggregate-is-word-2 (read-statement-calls t) (read-statement-at t) read-statement.Post
-read-statement-slice-aggregate-is-word-2 t c = search needs
-
-read-statement-is-word-requires-2 : (t : ℕ) → read-statement-lts.Need-is-word-requires-2 (read-statement-calls t) (read-statement-at t) read-statement.Post
-read-statement-is-word-requires-2 t c κs = c .before .before .before .before .start-at .ensures .inside
+read-statement-is-word-requires t c κs = c .before .before .before .before .start-at .ensures .inside
 
 read-statement-add-read-set : (t : ℕ) → read-statement-lts.Need-add-read-set (read-statement-calls t) (read-statement-at t) read-statement.Post
-read-statement-add-read-set t c = omega (arith, c .before .is-word2 .ensures .1 (c .if2 .taken))
+read-statement-add-read-set t c = omega (arith, c .before .is-word .ensures .1 (c .if3 .taken))
 
 read-statement-read-set-requires : (t : ℕ) → read-statement-lts.Need-read-set-requires (read-statement-calls t) (read-statement-at t) read-statement.Post
 read-statement-read-set-requires t c κs =
     let asked = c .before .before .before in
     let here = asked .before .before .before .before .before in
     let start = statement-start t here in
-    let w = statement-led t here (asked .is-word2 .ensures .0) (c .before .before .if2 .taken) spells-set in
+    let w = statement-led t here (asked .is-word .ensures .0) (c .before .before .if3 .taken) spells-set in
     (asked-after (start .pre .1 .0) w, start .pre .1 .1)
 
 read-statement-returns-2 : (t : ℕ) → read-statement-lts.Need-returns-2 (read-statement-calls t) (read-statement-at t) read-statement.Post
 read-statement-returns-2 t c =
     let asked = c .before .before .before .before in
     let here = asked .before .before .before .before .before in
-    let w = statement-led t here (asked .is-word2 .ensures .0) (c .before .before .before .if2 .taken) spells-set in
+    let w = statement-led t here (asked .is-word .ensures .0) (c .before .before .before .if3 .taken) spells-set in
     (c .read-set .ensures .0 _ w, c .read-set .ensures .1)
 
-read-statement-slice-aggregate-is-word-3 :
-    (t : ℕ) → read-statement-lts.Need-slice-aggregate-is-word-3 (read-statement-calls t) (read-statement-at t) read-statement.Post
-read-statement-slice-aggregate-is-word-3 t c = search needs
+read-statement-slice-aggregate-is-word-2 : (t : ℕ) → read-statement-lts.Need-slice-aggregate-is-word-2 (read-statement-calls t) (read-statement-at t) read-statement.Post
+read-statement-slice-aggregate-is-word-2 t c = search needs
 
-read-statement-is-word-requires-3 : (t : ℕ) → read-statement-lts.Need-is-word-requires-3 (read-statement-calls t) (read-statement-at t) read-statement.Post
-read-statement-is-word-requires-3 t c κs = c .before .before .before .before .before .before .before .start-at .ensures .inside
+read-statement-is-word-requires-2 : (t : ℕ) → read-statement-lts.Need-is-word-requires-2 (read-statement-calls t) (read-statement-at t) read-statement.Post
+read-statement-is-word-requires-2 t c κs = c .before .before .before .before .before .before .before .start-at .ensures .inside
 
-read-statement-add-read-if : (t : ℕ) → read-statement-lts.Need-add-read-if (read-statement-calls t) (read-statement-at t) read-statement.Post
-read-statement-add-read-if t c = omega (arith, c .before .is-word3 .ensures .1 (c .if3 .taken))
+read-statement-put-row-requires : (t : ℕ) → read-statement-lts.Need-put-row-requires (read-statement-calls t) (read-statement-at t) read-statement.Post
+read-statement-put-row-requires t c κs =
+    statement-start t (c .before .before .before .before .before .before .before .before .before .before) .pre .1 .0 .long
 
-read-statement-read-if-requires : (t : ℕ) → read-statement-lts.Need-read-if-requires (read-statement-calls t) (read-statement-at t) read-statement.Post
-read-statement-read-if-requires t c κs =
-    let asked = c .before .before .before in
-    let here = asked .before .before .before .before .before .before .before .before in
-    let start = statement-start t here in
-    let w = statement-led t here (asked .is-word3 .ensures .0) (c .before .before .if3 .taken) spells-if in
-    (omega (arith, start .pre .0, w .on, w .inside), (asked-after (start .pre .1 .0) w, start .pre .1 .1))
+read-statement-add-t28 : (t : ℕ) → read-statement-lts.Need-add-t28 (read-statement-calls t) (read-statement-at t) read-statement.Post
+read-statement-add-t28 t c =
+    let taken = c .before .before in
+    omega (arith, taken .before .is-word2 .ensures .1 (taken .if4 .taken))
+
+read-statement-add-t29 : (t : ℕ) → read-statement-lts.Need-add-t29 (read-statement-calls t) (read-statement-at t) read-statement.Post
+read-statement-add-t29 t c =
+    let a = statement-start t (c .before .before .before .before .before .before .before .before .before .before .before) .pre .1 .0 in
+    omega (arith, a .inside, a .short, a .few)
 
 read-statement-returns-3 : (t : ℕ) → read-statement-lts.Need-returns-3 (read-statement-calls t) (read-statement-at t) read-statement.Post
 read-statement-returns-3 t c =
-    let asked = c .before .before .before .before in
-    let here = asked .before .before .before .before .before .before .before .before in
-    let w = statement-led t here (asked .is-word3 .ensures .0) (c .before .before .before .if3 .taken) spells-if in
-    (c .read-if .ensures .0 _ w, c .read-if .ensures .1)
+    let asked = c .before .before .before in
+    let here = asked .before .before .before .before .before .before .before .before in (
+      skip-read (statement-led t here (asked .is-word2 .ensures .0) (c .before .before .if4 .taken) spells-skip) (c .put-row .ensures),
+      statement-start t here .pre .1 .1,
+    )
 
-read-statement-slice-aggregate-is-word-4 :
-    (t : ℕ) → read-statement-lts.Need-slice-aggregate-is-word-4 (read-statement-calls t) (read-statement-at t) read-statement.Post
-read-statement-slice-aggregate-is-word-4 t c = search needs
+read-statement-slice-aggregate-is-word-3 : (t : ℕ) → read-statement-lts.Need-slice-aggregate-is-word-3 (read-statement-calls t) (read-statement-at t) read-statement.Post
+read-statement-slice-aggregate-is-word-3 t c = search needs
 
-read-statement-is-word-requires-4 : (t : ℕ) → read-statement-lts.Need-is-word-requires-4 (read-statement-calls t) (read-statement-at t) read-statement.Post
-read-statement-is-word-requires-4 t c κs = c .before .before .before .before .before .before .before .before .before .before .start-at .ensures .inside
+read-statement-is-word-requires-3 : (t : ℕ) → read-statement-lts.Need-is-word-requires-3 (read-statement-calls t) (read-statement-at t) read-statement.Post
+read-statement-is-word-requires-3 t c κs = c .before .before .before .before .before .before .before .before .before .before .start-at .ensures .inside
 
-read-statement-add-read-while : (t : ℕ) → read-statement-lts.Need-add-read-while (read-statement-calls t) (read-statement-at t) read-statement.Post
-read-statement-add-read-while t c = omega (arith, c .before .is-word4 .ensures .1 (c .if4 .taken))
+read-statement-add-read-output : (t : ℕ) → read-statement-lts.Need-add-read-output (read-statement-calls t) (read-statement-at t) read-statement.Post
+read-statement-add-read-output t c = omega (arith, c .before .is-word3 .ensures .1 (c .if5 .taken))
 
-read-statement-read-while-requires : (t : ℕ) → read-statement-lts.Need-read-while-requires (read-statement-calls t) (read-statement-at t) read-statement.Post
-read-statement-read-while-requires t c κs =
+read-statement-read-output-requires : (t : ℕ) → read-statement-lts.Need-read-output-requires (read-statement-calls t) (read-statement-at t) read-statement.Post
+read-statement-read-output-requires t c κs =
     let asked = c .before .before .before in
     let here = asked .before .before .before .before .before .before .before .before .before .before .before in
     let start = statement-start t here in
-    let w = statement-led t here (asked .is-word4 .ensures .0) (c .before .before .if4 .taken) spells-while in
-    (omega (arith, start .pre .0, w .on, w .inside), (asked-after (start .pre .1 .0) w, start .pre .1 .1))
+    let w = statement-led t here (asked .is-word3 .ensures .0) (c .before .before .if5 .taken) spells-settled in
+    (asked-after (start .pre .1 .0) w, start .pre .1 .1)
 
 read-statement-returns-4 : (t : ℕ) → read-statement-lts.Need-returns-4 (read-statement-calls t) (read-statement-at t) read-statement.Post
 read-statement-returns-4 t c =
     let asked = c .before .before .before .before in
     let here = asked .before .before .before .before .before .before .before .before .before .before .before in
-    let w = statement-led t here (asked .is-word4 .ensures .0) (c .before .before .before .if4 .taken) spells-while in
-    (c .read-while .ensures .0 _ w, c .read-while .ensures .1)
-
-read-statement-slice-aggregate-is-word-5 :
-    (t : ℕ) → read-statement-lts.Need-slice-aggregate-is-word-5 (read-statement-calls t) (read-statement-at t) read-statement.Post
-read-statement-slice-aggregate-is-word-5 t c = search needs
-
-read-statement-is-word-requires-5 : (t : ℕ) → read-statement-lts.Need-is-word-requires-5 (read-statement-calls t) (read-statement-at t) read-statement.Post
-read-statement-is-word-requires-5 t c κs = c .before .before .before .before .before .before .before .before .before .before .before .before .before .start-at .ensures .inside
-
-read-statement-add-read-output : (t : ℕ) → read-statement-lts.Need-add-read-output (read-statement-calls t) (read-statement-at t) read-statement.Post
-read-statement-add-read-output t c = omega (arith, c .before .is-word5 .ensures .1 (c .if5 .taken))
-
-read-statement-read-output-requires : (t : ℕ) → read-statement-lts.Need-read-output-requires (read-statement-calls t) (read-statement-at t) read-statement.Post
-read-statement-read-output-requires t c κs =
-    let asked = c .before .before .before in
-    let here = asked .before .before .before .before .before .before .before .before .before .before .before .before .before .before in
-    let start = statement-start t here in
-    let w = statement-led t here (asked .is-word5 .ensures .0) (c .before .before .if5 .taken) spells-settled in
-    (asked-after (start .pre .1 .0) w, start .pre .1 .1)
+    let w = statement-led t here (asked .is-word3 .ensures .0) (c .before .before .before .if5 .taken) spells-settled in
+    (c .read-output .ensures .0 word.settled Outputs.settled _ w, c .read-output .ensures .1)
 
 read-statement-returns-5 : (t : ℕ) → read-statement-lts.Need-returns-5 (read-statement-calls t) (read-statement-at t) read-statement.Post
 read-statement-returns-5 t c =
-    let asked = c .before .before .before .before in
-    let here = asked .before .before .before .before .before .before .before .before .before .before .before .before .before .before in
-    let w = statement-led t here (asked .is-word5 .ensures .0) (c .before .before .before .if5 .taken) spells-settled in
-    (c .read-output .ensures .0 word.settled Outputs.settled _ w, c .read-output .ensures .1)
+    let else5 = c in
+    let else4 = else5 .before .before .before in
+    let else3 = else4 .before .before .before in
+    let letter = else3 .before .before .before in
+    let here = letter .before .before .before in (
+      (
+        lacks-statement
+            (statement-missing t here (else4 .before .is-word2 .ensures .0) (else4 .if4 .left) spells-skip)
+            (statement-missing t here (else3 .before .is-word .ensures .0) (else3 .if3 .left) spells-set)
+            (statement-unlike t here spells-if (λ e. omega (arith, letter .if2 .taken, e)))
+            (statement-unlike t here spells-while (λ e. omega (arith, letter .if2 .taken, e)))
+            (statement-missing t here (else5 .before .is-word3 .ensures .0) (else5 .if5 .left) spells-settled)
+            (statement-unlike t here spells-provisional (λ e. omega (arith, letter .if2 .taken, e))),
+        statement-start t here .pre .1 .0 .long,
+      ),
+      statement-start t here .pre .1 .1,
+    )
 
-read-statement-slice-aggregate-is-word-6 :
-    (t : ℕ) → read-statement-lts.Need-slice-aggregate-is-word-6 (read-statement-calls t) (read-statement-at t) read-statement.Post
-read-statement-slice-aggregate-is-word-6 t c = search needs
+read-statement-slice-aggregate-is-word-4 : (t : ℕ) → read-statement-lts.Need-slice-aggregate-is-word-4 (read-statement-calls t) (read-statement-at t) read-statement.Post
+read-statement-slice-aggregate-is-word-4 t c = search needs
 
-read-statement-is-word-requires-6 : (t : ℕ) → read-statement-lts.Need-is-word-requires-6 (read-statement-calls t) (read-statement-at t) read-statement.Post
-read-statement-is-word-requires-6 t c κs = c .before .before .before .before .before .before .before .before .before .before .before .before .before .before .before .before .start-at .ensures .inside
+read-statement-is-word-requires-4 : (t : ℕ) → read-statement-lts.Need-is-word-requires-4 (read-statement-calls t) (read-statement-at t) read-statement.Post
+read-statement-is-word-requires-4 t c κs = c .before .before .before .before .start-at .ensures .inside
 
-read-statement-add-read-output-2 : (t : ℕ) → read-statement-lts.Need-add-read-output-2 (read-statement-calls t) (read-statement-at t) read-statement.Post
-read-statement-add-read-output-2 t c = omega (arith, c .before .is-word6 .ensures .1 (c .if6 .taken))
+read-statement-add-read-if : (t : ℕ) → read-statement-lts.Need-add-read-if (read-statement-calls t) (read-statement-at t) read-statement.Post
+read-statement-add-read-if t c = omega (arith, c .before .is-word4 .ensures .1 (c .if6 .taken))
 
-read-statement-read-output-requires-2 : (t : ℕ) → read-statement-lts.Need-read-output-requires-2 (read-statement-calls t) (read-statement-at t) read-statement.Post
-read-statement-read-output-requires-2 t c κs =
+read-statement-read-if-requires : (t : ℕ) → read-statement-lts.Need-read-if-requires (read-statement-calls t) (read-statement-at t) read-statement.Post
+read-statement-read-if-requires t c κs =
     let asked = c .before .before .before in
-    let here = asked .before .before .before .before .before .before .before .before .before .before .before .before .before .before .before .before .before in
+    let here = asked .before .before .before .before .before in
     let start = statement-start t here in
-    let w = statement-led t here (asked .is-word6 .ensures .0) (c .before .before .if6 .taken) spells-provisional in
-    (asked-after (start .pre .1 .0) w, start .pre .1 .1)
+    let w = statement-led t here (asked .is-word4 .ensures .0) (c .before .before .if6 .taken) spells-if in
+    (omega (arith, start .pre .0, w .on, w .inside), (asked-after (start .pre .1 .0) w, start .pre .1 .1))
 
 read-statement-returns-6 : (t : ℕ) → read-statement-lts.Need-returns-6 (read-statement-calls t) (read-statement-at t) read-statement.Post
 read-statement-returns-6 t c =
     let asked = c .before .before .before .before in
-    let here = asked .before .before .before .before .before .before .before .before .before .before .before .before .before .before .before .before .before in
-    let w = statement-led t here (asked .is-word6 .ensures .0) (c .before .before .before .if6 .taken) spells-provisional in
-    (c .read-output2 .ensures .0 word.provisional Outputs.provisional _ w, c .read-output2 .ensures .1)
+    let here = asked .before .before .before .before .before in
+    let w = statement-led t here (asked .is-word4 .ensures .0) (c .before .before .before .if6 .taken) spells-if in
+    (c .read-if .ensures .0 _ w, c .read-if .ensures .1)
+
+read-statement-slice-aggregate-is-word-5 : (t : ℕ) → read-statement-lts.Need-slice-aggregate-is-word-5 (read-statement-calls t) (read-statement-at t) read-statement.Post
+read-statement-slice-aggregate-is-word-5 t c = search needs
+
+read-statement-is-word-requires-5 : (t : ℕ) → read-statement-lts.Need-is-word-requires-5 (read-statement-calls t) (read-statement-at t) read-statement.Post
+read-statement-is-word-requires-5 t c κs = c .before .before .before .before .before .before .before .start-at .ensures .inside
+
+read-statement-add-read-while : (t : ℕ) → read-statement-lts.Need-add-read-while (read-statement-calls t) (read-statement-at t) read-statement.Post
+read-statement-add-read-while t c = omega (arith, c .before .is-word5 .ensures .1 (c .if7 .taken))
+
+read-statement-read-while-requires : (t : ℕ) → read-statement-lts.Need-read-while-requires (read-statement-calls t) (read-statement-at t) read-statement.Post
+read-statement-read-while-requires t c κs =
+    let asked = c .before .before .before in
+    let here = asked .before .before .before .before .before .before .before .before in
+    let start = statement-start t here in
+    let w = statement-led t here (asked .is-word5 .ensures .0) (c .before .before .if7 .taken) spells-while in
+    (omega (arith, start .pre .0, w .on, w .inside), (asked-after (start .pre .1 .0) w, start .pre .1 .1))
 
 read-statement-returns-7 : (t : ℕ) → read-statement-lts.Need-returns-7 (read-statement-calls t) (read-statement-at t) read-statement.Post
 read-statement-returns-7 t c =
-    let else6 = c in
-    let else5 = else6 .before .before .before in
-    let else4 = else5 .before .before .before in
-    let else3 = else4 .before .before .before in
-    let else2 = else3 .before .before .before in
-    let else1 = else2 .before .before .before in
-    let here = else1 .before .before .before in (
+    let asked = c .before .before .before .before in
+    let here = asked .before .before .before .before .before .before .before .before in
+    let w = statement-led t here (asked .is-word5 .ensures .0) (c .before .before .before .if7 .taken) spells-while in
+    (c .read-while .ensures .0 _ w, c .read-while .ensures .1)
+
+read-statement-slice-aggregate-is-word-6 : (t : ℕ) → read-statement-lts.Need-slice-aggregate-is-word-6 (read-statement-calls t) (read-statement-at t) read-statement.Post
+read-statement-slice-aggregate-is-word-6 t c = search needs
+
+read-statement-is-word-requires-6 : (t : ℕ) → read-statement-lts.Need-is-word-requires-6 (read-statement-calls t) (read-statement-at t) read-statement.Post
+read-statement-is-word-requires-6 t c κs = c .before .before .before .before .before .before .before .before .before .before .start-at .ensures .inside
+
+read-statement-add-read-output-2 : (t : ℕ) → read-statement-lts.Need-add-read-output-2 (read-statement-calls t) (read-statement-at t) read-statement.Post
+read-statement-add-read-output-2 t c = omega (arith, c .before .is-word6 .ensures .1 (c .if8 .taken))
+
+read-statement-read-output-requires-2 : (t : ℕ) → read-statement-lts.Need-read-output-requires-2 (read-statement-calls t) (read-statement-at t) read-statement.Post
+read-statement-read-output-requires-2 t c κs =
+    let asked = c .before .before .before in
+    let here = asked .before .before .before .before .before .before .before .before .before .before .before in
+    let start = statement-start t here in
+    let w = statement-led t here (asked .is-word6 .ensures .0) (c .before .before .if8 .taken) spells-provisional in
+    (asked-after (start .pre .1 .0) w, start .pre .1 .1)
+
+read-statement-returns-8 : (t : ℕ) → read-statement-lts.Need-returns-8 (read-statement-calls t) (read-statement-at t) read-statement.Post
+read-statement-returns-8 t c =
+    let asked = c .before .before .before .before in
+    let here = asked .before .before .before .before .before .before .before .before .before .before .before in
+    let w = statement-led t here (asked .is-word6 .ensures .0) (c .before .before .before .if8 .taken) spells-provisional in
+    (c .read-output2 .ensures .0 word.provisional Outputs.provisional _ w, c .read-output2 .ensures .1)
+
+read-statement-returns-9 : (t : ℕ) → read-statement-lts.Need-returns-9 (read-statement-calls t) (read-statement-at t) read-statement.Post
+read-statement-returns-9 t c =
+    let else8 = c in
+    let else7 = else8 .before .before .before in
+    let else6 = else7 .before .before .before in
+    let letter = else6 .before .before .before in
+    let here = letter .before .before .before in (
       (
         lacks-statement
-            (statement-missing t here (else1 .before .is-word .ensures .0) (else1 .if1 .left) spells-skip)
-            (statement-missing t here (else2 .before .is-word2 .ensures .0) (else2 .if2 .left) spells-set)
-            (statement-missing t here (else3 .before .is-word3 .ensures .0) (else3 .if3 .left) spells-if)
-            (statement-missing t here (else4 .before .is-word4 .ensures .0) (else4 .if4 .left) spells-while)
-            (statement-missing t here (else5 .before .is-word5 .ensures .0) (else5 .if5 .left) spells-settled)
-            (statement-missing t here (else6 .before .is-word6 .ensures .0) (else6 .if6 .left) spells-provisional),
+            (statement-unlike t here spells-skip (letter .if2 .left))
+            (statement-unlike t here spells-set (letter .if2 .left))
+            (statement-missing t here (else6 .before .is-word4 .ensures .0) (else6 .if6 .left) spells-if)
+            (statement-missing t here (else7 .before .is-word5 .ensures .0) (else7 .if7 .left) spells-while)
+            (statement-unlike t here spells-settled (letter .if2 .left))
+            (statement-missing t here (else8 .before .is-word6 .ensures .0) (else8 .if8 .left) spells-provisional),
         statement-start t here .pre .1 .0 .long,
       ),
       statement-start t here .pre .1 .1,
@@ -882,38 +909,41 @@ pub +read-block+read-if+read-statement+read-while-spec : {M : Type 1} → cycle.
     (read-statement-at t)
     read-statement.Post
     (read-statement-start-at-requires t)
+    (read-statement-returns t)
+    (read-statement-shared-slice-read-if2 t)
     (read-statement-slice-aggregate-is-word t)
     (read-statement-is-word-requires t)
-    (read-statement-put-row-requires t)
-    (read-statement-add-t18 t)
-    (read-statement-add-t19 t)
-    (read-statement-returns t)
-    (read-statement-slice-aggregate-is-word-2 t)
-    (read-statement-is-word-requires-2 t)
     (read-statement-add-read-set t)
     (read-statement-read-set-requires t)
     (read-statement-returns-2 t)
+    (read-statement-slice-aggregate-is-word-2 t)
+    (read-statement-is-word-requires-2 t)
+    (read-statement-put-row-requires t)
+    (read-statement-add-t28 t)
+    (read-statement-add-t29 t)
+    (read-statement-returns-3 t)
     (read-statement-slice-aggregate-is-word-3 t)
     (read-statement-is-word-requires-3 t)
-    (read-statement-add-read-if t)
-    (read-statement-read-if-requires t)
-    (read-statement-returns-3 t)
-    (read-statement-slice-aggregate-is-word-4 t)
-    (read-statement-is-word-requires-4 t)
-    (read-statement-add-read-while t)
-    (read-statement-read-while-requires t)
-    (read-statement-returns-4 t)
-    (read-statement-slice-aggregate-is-word-5 t)
-    (read-statement-is-word-requires-5 t)
     (read-statement-add-read-output t)
     (read-statement-read-output-requires t)
+    (read-statement-returns-4 t)
     (read-statement-returns-5 t)
+    (read-statement-slice-aggregate-is-word-4 t)
+    (read-statement-is-word-requires-4 t)
+    (read-statement-add-read-if t)
+    (read-statement-read-if-requires t)
+    (read-statement-returns-6 t)
+    (read-statement-slice-aggregate-is-word-5 t)
+    (read-statement-is-word-requires-5 t)
+    (read-statement-add-read-while t)
+    (read-statement-read-while-requires t)
+    (read-statement-returns-7 t)
     (read-statement-slice-aggregate-is-word-6 t)
     (read-statement-is-word-requires-6 t)
     (read-statement-add-read-output-2 t)
     (read-statement-read-output-requires-2 t)
-    (read-statement-returns-6 t)
-    (read-statement-returns-7 t))
+    (read-statement-returns-8 t)
+    (read-statement-returns-9 t))
     λ t. read-while-lts.spec (read-while-calls t)
     (read-while-at t)
     read-while.Post
