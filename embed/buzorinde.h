@@ -60,7 +60,7 @@ enum {
     BUZORINDE_JUDGE_STACK = 2048,
     BUZORINDE_CHECK_STACK = 4096,
     BUZORINDE_RUN_STACK = 16384,
-    BUZORINDE_READ_STACK = 720896
+    BUZORINDE_READ_STACK = 655360
 };
 
 /* The limits. What is beyond them is refused; any memory, mark set and budget is allowed. */

@@ -34,7 +34,7 @@ pub fn is_word(text: &[u8], at: usize, key: &[u8]) -> bool
     true
 }
 
-// Whether the word at a place is this key.
+// The place after the word at a place, where it is this key; else where the word starts that stands there.
 pub fn expect(text: &[u8], from: usize, key: &[u8]) -> Found
     ensures { λ r. ⌜ Looked (now (text .entry)) from (now (key .entry)) r ⌝ }
 {
