@@ -153,8 +153,8 @@ pub fn read_text(text: &[u8], table: &mut [u32]) -> Said
     match head {
         Head::Faulty(place) => faulty(text, place),
         Head::Over(s) => {
-            let mut rows = [0; TABLE_WORDS];
             let mut held = [0; MOST_HELD];
+            let mut rows = [0; TABLE_WORDS];
             read_body(text, s, &mut rows, &mut held, table)
         }
     }
