@@ -24,7 +24,8 @@ use Rattle.language.specs.Readings.{wordsOf, Is, endOf, partAt, repeated
 use Rattle.language.specs.Claims.{ExactlyRecipes, FaultIsFirst, RefusedChangesNothing, Stands, AcceptedStands}
 use Rattle.language.proofs.Faults.{first}
 use Rattle.language.proofs.Declared.{marks-declared}
-use Rattle.language.proofs.TableLaws.{table-is-judged, rows-are-the-tree, table-words}
+use Rattle.language.proofs.TableLaws.{table-is-judged, rows-are-the-tree}
+use Rattle.language.proofs.RowCounts.{table-words}
 
 -- The answer to a recipe: refused by 11, 12, 5 or 13, or accepted.
 data Answered (meant : Bool) (text : List ℕ) (r : Recipe) (table : List ℕ) : Reading → Type 0 where
@@ -94,7 +95,7 @@ accepted-stands meant text table a (faulty h rest f) e = absurd (omega arith)
 accepted-stands meant text table a (read h r is) e = stands (answered meant text r table is) e
   where
     size : blockSize (r .block) * rowWords ≡ length (tableOf r)
-    size = sym (table-words text r is)
+    size = sym (table-words r)
 
     front : take (blockSize (r .block) * rowWords) (tableOf r ++ drop (length (tableOf r)) table) ≡ tableOf r
     front =

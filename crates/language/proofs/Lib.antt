@@ -2,6 +2,7 @@
 pub mod Unambiguous
 pub mod OneAnswer
 pub mod KnownWords
+pub mod RowCounts
 pub mod RecipeRows
 pub mod TableLaws
 pub mod Faults

@@ -1,5 +1,5 @@
 -- The table of a recipe is accepted or refused by 5 alone, and it stands for the tree that was written.
-use Prim.Native.Nat.{ℕ, _+_, _-_, _*_, _/_, _%_, _≤_, _<_, min}
+use Prim.Native.Nat.{ℕ, _+_, _-_, _/_, _%_, _≤_, _<_, min}
 use native.Mathlib.Omega.{arith}
 use mathlib.Core.Bool.{Bool, true, false, not, true≢false}
 use mathlib.Core.List.{List}
@@ -20,13 +20,13 @@ use Rattle.rules.specs.Cases.{Quad, wordsOf}
 use Rattle.rules.proofs.RefusalLaws.{count-law, last-law, inner-law}
 use Rattle.rules.proofs.TreeLaws.{recipe-law}
 use Rattle.rules.proofs.Lowest.{lowest-is-given}
-use Rattle.language.specs.Recipes.{Block, Recipe, blockTokens}
+use Rattle.language.specs.Recipes.{Block, blockTokens}
 use Rattle.language.specs.Tables.{blockBelow, blockSize, blockRows, tableOf, blockTree}
-use Rattle.language.specs.Readings.{Is}
 use Rattle.language.specs.Claims.{TableIsJudged, RowsAreTheTree}
 use Rattle.language.proofs.KnownWords.{AllKnown, text-known}
 use Rattle.rules.proofs.RightRows.{right-words, right-children}
-use Rattle.rules.proofs.PartLaws.{made, made-length, words-length, part-all, once}
+use Rattle.rules.proofs.PartLaws.{made, made-length, part-all, once}
+use Rattle.language.proofs.RowCounts.{block-words}
 use Rattle.language.proofs.RecipeRows.{BlockStands, block-stands}
 
 module _ (b : Block) (known : AllKnown (blockTokens b)) where
@@ -47,12 +47,9 @@ module _ (b : Block) (known : AllKnown (blockTokens b)) where
       let last : length (made quads) - 1 ≡ 0 + blockBelow b = omega (arith, length-rows) in
       recipe-law (made quads) ∙ ap (stmtAt (made quads)) last ∙ stands .tree fitting
 
-  size-words : length (wordsOf quads) ≡ blockSize b * rowWords
-  size-words = words-length quads ∙ ap (λ (n : ℕ). 4 * n) (stands .grown .size) ∙ omega arith
-
   right-count : blockSize b ≤ mostRows → wrongCount (wordsOf quads) ≡ false
   right-count few =
-      let size = size-words in
+      let size = block-words b 0 in
       let whole : length (wordsOf quads) % rowWords ≡ 0 = omega arith in
       let rows : length (wordsOf quads) / rowWords ≡ blockSize b = omega arith in
       let some : length (wordsOf quads) / rowWords ≢ 0 = omega arith in
@@ -95,8 +92,3 @@ table-is-judged text r is few = by (judge (tableOf r)) refl
 pub rows-are-the-tree : RowsAreTheTree
 unfolding tableOf
 rows-are-the-tree text r is = right-tree (r .block) (text-known text r is)
-
--- the words of a recipe's table
-pub table-words : (text : List ℕ) (r : Recipe) → Is text r → length (tableOf r) ≡ blockSize (r .block) * rowWords
-unfolding tableOf
-table-words text r is = size-words (r .block) (text-known text r is)

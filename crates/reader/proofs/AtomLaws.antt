@@ -18,6 +18,7 @@ use Rattle.language.specs.Words.{isBlank, isLetter, isJoining, joins}
 use Rattle.language.specs.Tokens as word
 use Rattle.language.specs.Tokens.{Token, Spelling, fixed, same, wholeNumber, counted, among, tokenOf}
 use Rattle.language.specs.Tables.{operatorNumber}
+use Rattle.language.proofs.Unambiguous.{clash}
 use Rattle.reader.specs.Atoms.{Atom, wholeOf, wholeFrom, atomOf, signNumber, NumeralTo, NumberTo, AtomIs}
 use Rattle.reader.specs.Machine.{tag, isWord, isVariable, isNumeral}
 use Rattle.reader.specs.Atoms as atom
@@ -26,7 +27,6 @@ use Rattle.spans.specs.Cut.{part, Cut, JoinedTo}
 use Rattle.spans.specs.declared.Span.{Span}
 use Rattle.spans.proofs.WordLaws.{part-next, joins-not, cut-one, cut-once, cut-joined, cut-some}
 use Rattle.reader.specs.Statements.{allJoining}
-use Rattle.reader.proofs.Clash.{clash}
 use Rattle.reader.proofs.KeyLaws.{spelling, same-is}
 use Rattle.reader.proofs.StartLaws.{all-of}
 use Rattle.reader.proofs.SpellLaws.{spells-sign}

@@ -17,8 +17,8 @@ use Rattle.language.specs.Tables.{operatorNumber}
 use Rattle.language.specs.Recipes.{Statement, skip, set, if, while, Block, one, more, Level, plain, Declaration, Recipe, exprTokens, statementTokens, blockTokens, levelTokens, declarationsTokens, recipeTokens}
 use Rattle.language.specs.Recipes as recipe
 use Rattle.language.specs.Readings.{Fault}
+use Rattle.language.proofs.Unambiguous.{clash}
 use Rattle.reader.specs.Machine.{tag, isWord, isVariable, isNumeral, isSign, Closer, atElse, atEnd, atFinish, Symbol, expr, statement, exactly, name, operator, rest, start, level, Advance, stop, go, also, onExpr, onStatement, closing, onRest, onStart, onLevel, expected, advance, finished, stuck, mayEnd, endsAt, ended, onward, run}
-use Rattle.reader.proofs.Clash.{clash}
 use Rattle.reader.proofs.RunLaws.{run-recipe}
 
 -- ---- a word by its number

@@ -17,12 +17,13 @@ use Rattle.language.specs.Tokens.{Token, tokens}
 use Rattle.language.specs.Recipes.{exprTokens}
 use Rattle.language.specs.Tables.{exprBelow, exprSize, exprRows, operatorNumber}
 use Rattle.spans.specs.Cut.{from}
+use Rattle.language.proofs.RowCounts.{exprRows-length}
 use Rattle.reader.specs.Machine.{Symbol, expr, exactly, operator, run}
 use Rattle.reader.specs.Rows.{rowPut, rowsPut}
 use Rattle.reader.specs.Statements.{Led}
 use Rattle.reader.specs.Frames.{Frame, waiting, having, framesTokens, framesSize, framesRows, framesOwed, mostHeld, Entries, Whole, nothing, just, wholeTokens, Standing}
 use Rattle.reader.specs.declared.expressions.Inside.{Inside}
-use Rattle.reader.proofs.RowLaws.{row-beyond, rowsPut-last, exprRows-length}
+use Rattle.reader.proofs.RowLaws.{row-beyond, rowsPut-last}
 use Rattle.reader.proofs.RunLaws.{joined, run-sign, run-opening, run-expr}
 use Rattle.reader.proofs.PlaceLaws.{later-on}
 

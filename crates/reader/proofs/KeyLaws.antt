@@ -11,8 +11,8 @@ use Rattle.lines.specs.Limits.{mostWord}
 use Rattle.lines.specs.Numbers.{Number, noNumber, number, numberAt}
 use Rattle.language.specs.Tokens as word
 use Rattle.language.specs.Tokens.{Token, Spelling, fixed, same, wholeNumber, counted, among, tokenOf}
+use Rattle.language.proofs.Unambiguous.{clash}
 use Rattle.reader.specs.Machine.{tag, isWord}
-use Rattle.reader.proofs.Clash.{clash}
 use Rattle.reader.proofs.FaultLaws.{isFixed, is-word}
 
 -- ---- the same bytes

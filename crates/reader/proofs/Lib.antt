@@ -1,5 +1,4 @@
 -- The laws of reading a recipe's text.
-pub mod Clash
 pub mod RunLaws
 pub mod FaultLaws
 pub mod KeyLaws

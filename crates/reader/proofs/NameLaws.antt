@@ -7,6 +7,7 @@ use Rattle.rules.specs.Limits.{width}
 use Rattle.language.specs.Tokens as word
 use Rattle.language.specs.Tokens.{Token, tokenOf}
 use Rattle.language.proofs.KnownWords.{AllKnown, tokens-known}
+use Rattle.language.proofs.Unambiguous.{clash}
 use Rattle.spans.specs.Cut.{from, part, Begun, Cut}
 use Rattle.spans.specs.declared.Span.{Span}
 use Rattle.spans.proofs.WordLaws.{cut-begun, cut-found, cut-start}
@@ -16,7 +17,6 @@ use Rattle.reader.specs.Steps.{Stuck}
 use Rattle.reader.specs.Statements.{Led}
 use Rattle.reader.specs.Atoms as atom
 use Rattle.reader.specs.declared.atoms.Numeral.{Numeral}
-use Rattle.reader.proofs.Clash.{clash}
 use Rattle.reader.proofs.FaultLaws.{is-variable}
 use Rattle.reader.proofs.AtomLaws.{atom-is}
 use Rattle.reader.proofs.PlaceLaws.{led-token, led-some, stuck-cut}

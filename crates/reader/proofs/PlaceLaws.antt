@@ -11,13 +11,13 @@ use borrow.Author.Tests.{ltb-true, ltb-false, eq-eqb}
 use Rattle.language.specs.Words.{Word}
 use Rattle.language.specs.Tokens as word
 use Rattle.language.specs.Tokens.{Token, fixed, same, counted, among, tokenOf, tokens}
+use Rattle.language.proofs.Unambiguous.{clash}
 use Rattle.spans.specs.Cut.{from, part, Begun, Cut}
 use Rattle.spans.specs.declared.Span.{Span}
 use Rattle.spans.proofs.WordLaws.{words-end, cut-begun, cut-found}
 use Rattle.reader.specs.Machine.{tag, isWord, Symbol, exactly, Advance, stop, expected, advance, mayEnd, endsAt, ended, onward, stuck, run}
 use Rattle.reader.specs.Steps.{Later, Missing, Stuck}
 use Rattle.reader.specs.Statements.{Compared, Spells, Led}
-use Rattle.reader.proofs.Clash.{clash}
 use Rattle.reader.proofs.StartLaws.{word-unlike}
 
 pub later-self : {text : List ℕ} {at : ℕ} → Later text at at

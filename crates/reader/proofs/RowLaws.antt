@@ -10,11 +10,7 @@ use lib.ListN.{length, take, drop, set as write, length-append}
 use lib.Seq.{sets, sets-eq, length-sets, length-take-le, take-at}
 use borrow.Author.Tests.{lt-ltb, le-ltb}
 use Rattle.rules.specs.Limits.{rowWords, mostRows, tableWords}
-use Rattle.rules.specs.Trees.{Expr, constant, variable, binary}
 use Rattle.rules.specs.Cases.{Quad, wordsOf}
-use Rattle.language.specs.Recipes.{Statement, skip, set, if, while, Block, one, more}
-use Rattle.language.specs.Recipes as recipe
-use Rattle.language.specs.Tables.{exprSize, statementSize, blockSize, exprRows, statementRows, blockRows}
 use Rattle.reader.specs.Rows.{rowPut, rowsPut}
 
 -- ---- one row
@@ -63,39 +59,6 @@ rowsPut-append row (quad ∷ a) b table =
 pub rowsPut-last : (row : ℕ) (a : List Quad) (quad : Quad) (table : List ℕ) → rowsPut row (a ++ quad ∷ []) table ≡ rowPut (row + length a) quad (rowsPut row a table)
 unfolding rowsPut
 rowsPut-last row a quad table = rowsPut-append row a (quad ∷ []) table
-
--- ---- how many rows
-
-pub exprRows-length : (e : Expr) (base : ℕ) → length (exprRows base e) ≡ exprSize e
-exprRows-length (constant value) base = refl
-exprRows-length (variable v) base = refl
-exprRows-length (binary o a b) base =
-    let left = exprRows-length a base in
-    let right = exprRows-length b (base + exprSize a) in
-    simp length-append (omega arith)
-
-mutual
-  pub statementRows-length : (s : Statement) (base : ℕ) → length (statementRows base s) ≡ statementSize s
-  statementRows-length skip base = refl
-  statementRows-length (set v e) base = let value = exprRows-length e base in simp length-append (omega arith)
-  statementRows-length (if e s t) base =
-      let test = exprRows-length e base in
-      let first = blockRows-length s (base + exprSize e) in
-      let second = blockRows-length t (base + exprSize e + blockSize s) in
-      simp length-append (omega arith)
-  statementRows-length (while e s) base =
-      let test = exprRows-length e base in
-      let body = blockRows-length s (base + exprSize e) in
-      simp length-append (omega arith)
-  statementRows-length (recipe.settled e) base = let value = exprRows-length e base in simp length-append (omega arith)
-  statementRows-length (recipe.provisional e) base = let value = exprRows-length e base in simp length-append (omega arith)
-
-  pub blockRows-length : (b : Block) (base : ℕ) → length (blockRows base b) ≡ blockSize b
-  blockRows-length (one s) base = statementRows-length s base
-  blockRows-length (more s b) base =
-      let first = statementRows-length s base in
-      let others = blockRows-length b (base + statementSize s) in
-      simp length-append (omega arith)
 
 -- ---- the rows at the front
 

@@ -9,11 +9,11 @@ use lib.ListN.{length, getD, take, drop}
 use borrow.Author.Tests.{eqb-true, eqb-false, eq-eqb}
 use Rattle.language.specs.Words.{isBlank, isJoining, joins}
 use Rattle.language.specs.Tokens.{same}
+use Rattle.language.proofs.Unambiguous.{clash}
 use Rattle.spans.specs.Cut.{part, Cut, JoinedTo}
 use Rattle.spans.specs.declared.Span.{Span}
 use Rattle.spans.proofs.WordLaws.{part-next, part-length, joins-at, joins-not, cut-run, cut-one, cut-once, cut-joined, cut-some}
 use Rattle.reader.specs.Statements.{allJoining, oneWord}
-use Rattle.reader.proofs.Clash.{clash}
 use Rattle.reader.proofs.KeyLaws.{same-is}
 
 -- ---- a key

@@ -15,13 +15,14 @@ use Rattle.language.specs.Recipes.{Statement, skip, set, if, while, Block, one,
 use Rattle.language.specs.Recipes as recipe
 use Rattle.language.specs.Tables.{exprBelow, exprSize, statementBelow, statementSize, blockBelow, blockSize, exprRows, statementRows, blockRows}
 use Rattle.spans.specs.Cut.{from, Begun}
+use Rattle.language.proofs.RowCounts.{exprRows-length, statementRows-length, blockRows-length}
 use Rattle.reader.specs.Machine.{Closer, atElse, atEnd, Symbol, expr, statement, exactly, name, rest, onStatement, closing, onRest, run}
 use Rattle.reader.specs.Rows.{rowPut, rowsPut}
 use Rattle.reader.specs.Steps.{Missing, Sort, expressions, statements, blocks, Later, Asked, Read, Stuck, Stepped, Over, BlockStepped}
 use Rattle.reader.specs.Statements.{Spells, Led, Ended, Outputs, settled, provisional}
 use Rattle.reader.specs.declared.expressions.Step.{Step}
 use Rattle.reader.proofs.RunLaws.{joined, run-exactly, run-expr, run-statement, run-block, run-more, run-else, run-if, run-while, run-set, run-name, run-settled, run-provisional}
-use Rattle.reader.proofs.RowLaws.{rowsPut-append, rowsPut-length, exprRows-length, statementRows-length, blockRows-length}
+use Rattle.reader.proofs.RowLaws.{rowsPut-append, rowsPut-length}
 use Rattle.reader.proofs.PlaceLaws.{later-self, later-on, begun-on, later-begun, stuck-more, stuck-past, stuck-here, stuck-word, lacks-word}
 
 -- parts with a word after them

@@ -19,6 +19,7 @@ use Rattle.language.specs.Readings.{Is, refused, Reads, long, faulty, read}
 use Rattle.spans.specs.declared.Span.{Span}
 use Rattle.spans.specs.Cut.{from, Cut}
 use Rattle.spans.proofs.WordLaws.{cut-part}
+use Rattle.language.proofs.RowCounts.{blockRows-length}
 use Rattle.reader.specs.Machine.{isWord, atFinish, statement, rest, start, name, level, Advance, stop, go, also, onStatement, closing, onRest, onStart, stuck, onward, run}
 use Rattle.reader.specs.Steps.{blocks, Read, Stuck, Over}
 use Rattle.reader.specs.Heads.{HeadRead}
@@ -28,7 +29,7 @@ use Rattle.reader.specs.declared.head.Head.{Head}
 use Rattle.reader.proofs.RunLaws.{run-declarations, run-block}
 use Rattle.reader.proofs.FaultLaws.{fault}
 use Rattle.reader.proofs.PlaceLaws.{later-on}
-use Rattle.reader.proofs.RowLaws.{rowsPut-length, blockRows-length, rows-front}
+use Rattle.reader.proofs.RowLaws.{rowsPut-length, rows-front}
 
 pub reads-long : (text table : List ℕ) → mostTextBytes < length text
     → Reads false text table (answered (turnedAway tooLong 0 (length text) (length text)) table)

@@ -19,6 +19,7 @@ use Rattle.spans.proofs.WordLaws.{cut-begun, cut-found}
 use Rattle.reader.specs.Machine.{tag, isWord, isVariable, isNumeral, isSign, Symbol, expr, stop, advance, onExpr, expected, mayEnd, run}
 use Rattle.reader.specs.Atoms.{atomOf, AtomIs, VariableAt, ConstantAt, signNumber, SignAt}
 use Rattle.rules.specs.Limits.{mostRows, tableWords}
+use Rattle.language.proofs.Unambiguous.{clash}
 use Rattle.reader.specs.Rows.{rowPut, rowsPut}
 use Rattle.reader.specs.Steps.{Asked, Stuck, Read, expressions}
 use Rattle.reader.specs.Statements.{oneWord, Compared, Led}
@@ -27,7 +28,6 @@ use Rattle.reader.specs.Atoms as atom
 use Rattle.reader.specs.declared.atoms.Numeral.{Numeral}
 use Rattle.reader.specs.declared.expressions.Inside.{Inside}
 use Rattle.reader.specs.declared.expressions.Turn.{Turn}
-use Rattle.reader.proofs.Clash.{clash}
 use Rattle.reader.proofs.SpellLaws.{spells-opening, spells-closing}
 use Rattle.reader.proofs.AtomLaws.{atom-is, atom-nothing}
 use Rattle.reader.proofs.RowLaws.{rowPut-length}

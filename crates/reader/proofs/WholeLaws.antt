@@ -15,13 +15,12 @@ use Rattle.language.specs.declared.Said.{Said}
 use Rattle.language.specs.Limits.{declaredAgain, tooManyRows, tableTooShort}
 use Rattle.language.specs.Words.{Word}
 use Rattle.language.specs.Recipes.{Recipe}
-use Rattle.language.specs.Tables.{blockSize, blockRows, tableOf, marksOf}
+use Rattle.language.specs.Tables.{blockSize, tableOf, marksOf}
 use Rattle.language.specs.Readings.{wordsOf, endOf, partAt, repeated, refused, laid, judged, sized, declared, readingOf}
-use Rattle.rules.proofs.PartLaws.{words-length}
+use Rattle.language.proofs.RowCounts.{table-words}
 use Rattle.reader.specs.Heads.{StandsAt}
 use Rattle.reader.specs.Wholes.{turnedAway, answered, Made}
 use Rattle.reader.specs.declared.head.Seen.{Seen}
-use Rattle.reader.proofs.RowLaws.{blockRows-length}
 
 -- the empty part at the text's end
 at-end : (number row : ℕ) (text : List ℕ) → turnedAway number row (length text) (length text) ≡ refused number row (endOf text)
@@ -84,14 +83,6 @@ made-judged text s rows count table number row is h verdict r stands marks count
     ap (λ (x : Said). answered x table) (at-end number row text)
     ∙ ap (λ (j : Judged). judged j text r (marksOf false (r .declarations)) table) (sym verdict ∙ ap judge (put small))
     ∙ few text s r table is stands small
-
--- the words of a recipe's table
-table-words : (r : Recipe) → length (tableOf r) ≡ blockSize (r .block) * rowWords
-unfolding tableOf
-table-words r =
-    let words = words-length (blockRows 0 (r .block)) in
-    let rows = blockRows-length (r .block) 0 in
-    words ∙ ap (λ (n : ℕ). 4 * n) rows ∙ omega arith
 
 laid-where : (text : List ℕ) (s : Seen) (rows : List ℕ) (count : ℕ) (table : List ℕ) (b : Bool) → s .end ≡ 0 → count ≤ mostRows
     → judge (take (count * rowWords) rows) ≡ Judged.Accepted → leb (count * rowWords) (length table) ≡ b → (r : Recipe)
