@@ -28,7 +28,7 @@
 
 /* The version of this header: a number changes whenever something here changes its meaning. */
 #define BUZORINDE_VERSION_MAJOR 0
-#define BUZORINDE_VERSION_MINOR 2
+#define BUZORINDE_VERSION_MINOR 3
 #define BUZORINDE_VERSION_PATCH 0
 
 /* The version as one number that grows, to be compared. */
@@ -147,7 +147,7 @@ enum {
     BUZORINDE_SUM = 0,        /* modulo 2^32, as are difference and product */
     BUZORINDE_DIFFERENCE = 1,
     BUZORINDE_PRODUCT = 2,
-    BUZORINDE_QUOTIENT = 3,   /* whole, and 0 where the divisor is 0 */
+    BUZORINDE_QUOTIENT = 3,   /* whole, and 4294967295 where the divisor is 0; there it was 0 before version 0.3.0 */
     BUZORINDE_EQUAL = 4,      /* 1 or 0 */
     BUZORINDE_LESS = 5        /* 1 or 0 */
 };

@@ -5,7 +5,7 @@
 #include <string>
 #include <vector>
 
-static_assert(BUZORINDE_VERSION == 200, "this program is for version 0.2.0");
+static_assert(BUZORINDE_VERSION == 300, "this program is for version 0.3.0");
 
 using Answer = std::array<uint32_t, BUZORINDE_RUN_WORDS>;
 

@@ -4,8 +4,9 @@
 use buzorinde::{CHECK_WORDS, JUDGE_WORDS, RUN_WORDS};
 use independent::marks::VARIABLES;
 use independent::random::Random;
-use independent::run::{Verdict, MOST_TRACE_WORDS, RECORD_WORDS};
+use independent::run::{run_told, Verdict, MOST_TRACE_WORDS, RECORD_WORDS};
 use independent::table::{ROW_WORDS, WHILE};
+use independent::tree::{Expression, Memory};
 
 use crate::calls::{
     by_independent, by_library, End, Left, ANSWERED, ANSWER_TOO_SHORT, MEMORY_TOO_SHORT,
@@ -163,6 +164,7 @@ impl OnTable<'_> {
         };
         let end = self.run(&whole)?.end();
         self.count_loops(&end);
+        self.count_quotients(&whole);
         let mut known = (whole.clone(), end);
         for _ in 0..6 {
             let given = self.around(&known.0, &known.1);
@@ -293,6 +295,29 @@ impl OnTable<'_> {
             .count_if(looped && end.verdict == DONE, Kind::LoopEnds);
         self.tally
             .count_if(looped && end.verdict == SPENT, Kind::LoopEndless);
+    }
+
+    /// Quotients by 0 that the run takes.
+    fn count_quotients(&mut self, given: &Given) {
+        let memory = std::array::from_fn(|variable| given.memory[variable]);
+        let mut trace = vec![0; given.trace_words];
+        let (mut of_zero, mut of_another) = (false, false);
+        let mut told = |expression: &Expression, memory: &Memory| {
+            let dividends = expression.divided_by_zero(memory);
+            of_zero |= dividends.contains(&0);
+            of_another |= dividends.iter().any(|dividend| *dividend != 0);
+        };
+        let budget = given.budget;
+        run_told(
+            &self.words,
+            memory,
+            self.marks,
+            budget,
+            &mut trace,
+            &mut told,
+        );
+        self.tally.count_if(of_zero, Kind::ZeroByZero);
+        self.tally.count_if(of_another, Kind::OtherByZero);
     }
 
     /// Budgets around the known end of a run.

@@ -60,6 +60,9 @@ kinds! {
     Pass "check passes",
     Fail "check fails",
     CheckRefused "check refused",
+    // What a run computes.
+    ZeroByZero "run with a quotient of 0 by 0",
+    OtherByZero "run with a quotient of another number by 0",
     // How a run ends.
     LoopEnds "run with a loop that ends",
     LoopEndless "run with a loop that goes on to a large budget",

@@ -41,6 +41,18 @@ pub fn run(
     budget: u32,
     trace: &mut [u32],
 ) -> (Answer, u32) {
+    run_told(words, memory, marks, budget, trace, &mut |_, _| {})
+}
+
+/// The same, with someone who is told each expression whose value the run takes, and the memory.
+pub fn run_told(
+    words: &[u32],
+    memory: Memory,
+    marks: u32,
+    budget: u32,
+    trace: &mut [u32],
+    told: Told,
+) -> (Answer, u32) {
     let recipe = match accepted(words, trace) {
         Ok(recipe) => recipe,
         Err(refusal) => return (refused(refusal, memory), marks),
@@ -49,6 +61,7 @@ pub fn run(
         reached: Reached::start(memory, budget, trace),
         marks: from_bits(marks),
         pile: Vec::new(),
+        told,
     };
     let walked = watched.walk(&recipe);
     (watched.reached.answer(walked), to_bits(&watched.marks))
@@ -161,17 +174,31 @@ impl Reached<'_> {
     }
 }
 
+/// Who is told an expression whose value is taken, and the memory.
+type Told<'a> = &'a mut dyn FnMut(&Expression, &Memory);
+
 /// "The monitor holds the marks and a pile of mark sets, empty at the start."
 struct Watched<'a> {
     reached: Reached<'a>,
     marks: Marks,
     pile: Vec<Marks>,
+    told: Told<'a>,
 }
 
 impl Watched<'_> {
     /// "The run's context is provisional when the pile is not empty."
     fn provisional(&self, expression: &Expression) -> bool {
         !self.pile.is_empty() || expression.provisional(&self.marks)
+    }
+
+    fn value(&mut self, expression: &Expression) -> u32 {
+        (self.told)(expression, &self.reached.memory);
+        expression.value(&self.reached.memory)
+    }
+
+    /// "A test holds when its value is not 0."
+    fn holds(&mut self, test: &Expression) -> bool {
+        self.value(test) != 0
     }
 
     /// "A sequence takes no step of its own." A call for each row of the tree at most is
@@ -193,7 +220,7 @@ impl Watched<'_> {
     /// "It is marked if the expression or the context is provisional, and unmarked otherwise."
     fn assign(&mut self, variable: usize, expression: &Expression) -> Result<(), Stop> {
         self.reached.step()?;
-        let value = expression.value(&self.reached.memory);
+        let value = self.value(expression);
         self.marks[variable] = self.provisional(expression);
         self.reached.memory[variable] = value;
         Ok(())
@@ -208,7 +235,7 @@ impl Watched<'_> {
         otherwise: &Statement,
     ) -> Result<(), Stop> {
         self.reached.step()?;
-        let (taken, not_taken) = if test.holds(&self.reached.memory) {
+        let (taken, not_taken) = if self.holds(test) {
             (then, otherwise)
         } else {
             (otherwise, then)
@@ -225,7 +252,7 @@ impl Watched<'_> {
     fn walk_while(&mut self, test: &Expression, body: &Statement) -> Result<(), Stop> {
         loop {
             self.reached.step()?;
-            let holds = test.holds(&self.reached.memory);
+            let holds = self.holds(test);
             if self.provisional(test) {
                 // "push the empty set"; where the test fails, "the set that the body may assign"
                 let set = if holds { EMPTY } else { body.may_assign() };
@@ -260,7 +287,7 @@ impl Watched<'_> {
         }
         self.reached.need_room(row)?;
         self.reached.step()?;
-        let value = expression.value(&self.reached.memory);
+        let value = self.value(expression);
         self.reached.record(channel, value);
         Ok(())
     }

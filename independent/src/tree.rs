@@ -35,14 +35,14 @@ impl Operator {
         }
     }
 
-    /// "all modulo 2^32"; "with 0 where the divisor is 0"; "both give 1 or 0"
+    /// "all modulo 2^32"; "A quotient by 0 is now 4,294,967,295."; "both give 1 or 0"
     pub fn value(&self, left: u32, right: u32) -> u32 {
         let (left, right) = (u64::from(left), u64::from(right));
         let value = match self {
             Operator::Sum => left + right,
             Operator::Difference => MODULUS + left - right,
             Operator::Product => left * right,
-            Operator::Quotient if right == 0 => 0,
+            Operator::Quotient if right == 0 => 4_294_967_295,
             Operator::Quotient => left / right,
             Operator::Equal => u64::from(left == right),
             Operator::Less => u64::from(left < right),
@@ -66,6 +66,19 @@ impl Expression {
                 operator.value(left.value(memory), right.value(memory))
             }
         }
+    }
+
+    /// The dividends of all quotients by 0 that its value is made of.
+    pub fn divided_by_zero(&self, memory: &Memory) -> Vec<u32> {
+        let Expression::Binary(operator, left, right) = self else {
+            return Vec::new();
+        };
+        let mut dividends = left.divided_by_zero(memory);
+        dividends.extend(right.divided_by_zero(memory));
+        if matches!(operator, Operator::Quotient) && right.value(memory) == 0 {
+            dividends.push(left.value(memory));
+        }
+        dividends
     }
 
     /// "A test holds when its value is not 0."

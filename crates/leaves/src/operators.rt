@@ -1,6 +1,6 @@
 // The operators.
 // 3.2: Sum, difference and product are modulo 2^32.
-// 3.3: The quotient is rounded down, and it is 0 where the divisor is 0.
+// 3.3: The quotient is rounded down, and it is 4,294,967,295 where the divisor is 0, whatever the dividend.
 // 3.4: Equal and less give 1 where the left side is equal to or less than the right one, and else 0.
 use rules::WORD_VALUES;
 use std::num::wrapping_add_u32;
@@ -10,6 +10,8 @@ ghost use Rattle.rules.specs.declared.Operator.{Operator};
 ghost use Rattle.rules.specs.Trees.{operatorOf};
 ghost use Rattle.rules.specs.Values.{operate};
 
+const QUOTIENT_BY_ZERO: u32 = 4294967295;
+
 // The product modulo 2^32: the whole product fits 64 bits.
 fn product(a: u32, b: u32) -> u32
     ensures { λ r. ⌜ r ≡ operate Operator.Product a b ⌝ }
@@ -17,12 +19,12 @@ fn product(a: u32, b: u32) -> u32
     (a as u64 * b as u64 % WORD_VALUES) as u32
 }
 
-// The whole quotient, with 0 where the divisor is 0.
+// The whole quotient; by 0 it is the highest value, whatever the dividend.
 fn quotient(a: u32, b: u32) -> u32
     ensures { λ r. ⌜ r ≡ operate Operator.Quotient a b ⌝ }
 {
     if b == 0 {
-        return 0;
+        return QUOTIENT_BY_ZERO;
     }
     a / b
 }

@@ -12,7 +12,7 @@ use borrow.Author.Tests.{eq-eqb, ne-eqb, lt-ltb, le-ltb}
 use Rattle.rules.specs.declared.Kind.{Kind}
 use Rattle.rules.specs.declared.Operator.{Operator}
 use Rattle.rules.specs.declared.Row.{Row}
-use Rattle.rules.specs.Limits.{wordBits}
+use Rattle.rules.specs.Limits.{wordBits, quotientByZero}
 use Rattle.rules.specs.Marks.{none, has, only, union, provisional}
 use Rattle.rules.specs.Trees.{Expr, constant, variable, binary, Stmt, skip, operatorOf, exprNode, stmtNode}
 use Rattle.rules.specs.Values.{operate, value, level, mayAssign}
@@ -61,13 +61,13 @@ pub product-fits : (a b : ℕ) → a < 2 ^ wordBits → b < 2 ^ wordBits → a *
 product-fits a b ha hb =
     lt-of-le-of-lt (mul-le-mul-left a (le-of-lt hb)) (mul-lt-mul-of-pos-right {k = 2 ^ wordBits} ha (pow-pos wordBits))
 
-pub quotient-none : (a b : ℕ) → b ≡ 0 → operate Operator.Quotient a b ≡ 0
+pub quotient-none : (a b : ℕ) → b ≡ 0 → operate Operator.Quotient a b ≡ quotientByZero
 unfolding operate
-quotient-none a b h = ap (λ (t : Bool). cond t 0 (a / b)) (eq-eqb b 0 h)
+quotient-none a b h = ap (λ (t : Bool). cond t quotientByZero (a / b)) (eq-eqb b 0 h)
 
 pub quotient-law : (a b : ℕ) → (b ≡ 0 → ⊥) → operate Operator.Quotient a b ≡ a / b
 unfolding operate
-quotient-law a b h = ap (λ (t : Bool). cond t 0 (a / b)) (ne-eqb b 0 h)
+quotient-law a b h = ap (λ (t : Bool). cond t quotientByZero (a / b)) (ne-eqb b 0 h)
 
 pub equal-law : (a b : ℕ) → a ≡ b → operate Operator.Equal a b ≡ 1
 unfolding operate

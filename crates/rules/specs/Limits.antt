@@ -14,6 +14,10 @@ width = 32
 abbrev pub rowWords : ℕ
 rowWords = 4
 
+-- 3.3: The quotient .. is 4,294,967,295 where the divisor is 0, whatever the dividend.
+abbrev pub quotientByZero : ℕ
+quotientByZero = 4294967295
+
 -- 4.1: Refusal 1, at 0: .. there are more than 512.
 abbrev pub mostRows : ℕ
 mostRows = 512

@@ -17,12 +17,12 @@ use Rattle.rules.specs.Cases.{Quad, wordsOf, memoryOf}
 abbrev pub Operation : Type 0
 Operation = Operator × ℕ × ℕ × ℕ
 
--- 12.11: J: 4,294,967,295 + 1 is 0, 0 - 1 is 4,294,967,295, and 5 / 0 is 0.
+-- 12.11: J: 4,294,967,295 + 1 is 0, 0 - 1 is 4,294,967,295, and 5 / 0 is 4,294,967,295.
 abbrev caseJ : List Operation
-caseJ = (Operator.Sum, 4294967295, 1, 0) ∷ (Operator.Difference, 0, 1, 4294967295) ∷ (Operator.Quotient, 5, 0, 0) ∷ []
+caseJ = (Operator.Sum, 4294967295, 1, 0) ∷ (Operator.Difference, 0, 1, 4294967295) ∷ (Operator.Quotient, 5, 0, 4294967295) ∷ []
 
 -- 3.2: .. product are modulo 2^32.
--- 3.3: The quotient is rounded down, ..
+-- 3.3: The quotient is rounded down, and it is 4,294,967,295 where the divisor is 0, whatever the dividend.
 -- 3.4: Equal and less give 1 where the left side is equal to or less than the right one, and else 0.
 abbrev otherOperations : List Operation
 otherOperations =
@@ -30,6 +30,8 @@ otherOperations =
     ∷ (Operator.Product, 4294967295, 2, 4294967294)
     ∷ (Operator.Product, 3, 5, 15)
     ∷ (Operator.Quotient, 7, 2, 3)
+    ∷ (Operator.Quotient, 0, 0, 4294967295)
+    ∷ (Operator.Quotient, 0, 5, 0)
     ∷ (Operator.Equal, 2, 2, 1)
     ∷ (Operator.Equal, 1, 2, 0)
     ∷ (Operator.Equal, 2, 1, 0)

@@ -5,18 +5,18 @@ use mathlib.Core.List.{List}
 use lib.Dec.{eqb, ltb}
 use lib.ListN.{getD}
 use Rattle.rules.specs.declared.Operator.{Operator}
-use Rattle.rules.specs.Limits.{wordBits}
+use Rattle.rules.specs.Limits.{wordBits, quotientByZero}
 use Rattle.rules.specs.Marks.{none, has, only, union}
 use Rattle.rules.specs.Trees.{Expr, constant, variable, binary, Stmt, skip, assign, sequence, if, while, output}
 
 -- 3.2: Sum, difference and product are modulo 2^32.
--- 3.3: The quotient is rounded down, and it is 0 where the divisor is 0.
+-- 3.3: The quotient is rounded down, and it is 4,294,967,295 where the divisor is 0, whatever the dividend.
 -- 3.4: Equal and less give 1 where the left side is equal to or less than the right one, and else 0.
 unfoldable pub operate : Operator → ℕ → ℕ → ℕ
 operate Operator.Sum a b = (a + b) % 2 ^ wordBits
 operate Operator.Difference a b = (a + 2 ^ wordBits - b) % 2 ^ wordBits
 operate Operator.Product a b = (a * b) % 2 ^ wordBits
-operate Operator.Quotient a b = cond (eqb b 0) 0 (a / b)
+operate Operator.Quotient a b = cond (eqb b 0) quotientByZero (a / b)
 operate Operator.Equal a b = cond (eqb a b) 1 0
 operate Operator.Less a b = cond (ltb a b) 1 0
 

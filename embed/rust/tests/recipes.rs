@@ -1,6 +1,6 @@
 //! The texts in examples/ read as the jobs beside them, and the pages about texts say what the library answers.
 
-use buzorinde::{read, Read, MOST_TABLE_WORDS, ROW_WORDS};
+use buzorinde::{read, run, Read, MOST_TABLE_WORDS, ROW_WORDS, VARIABLES};
 use std::collections::BTreeSet;
 use std::fs;
 use std::path::{Path, PathBuf};
@@ -99,5 +99,33 @@ fn each_common_mistake_is_refused_as_its_page_says() {
         let handed_back = (reading.start, reading.part);
         assert_eq!(handed_back, (start, part.as_bytes()), "{row}");
         lines_of(instead);
+    }
+}
+
+/// The value of an expression of a and b.
+fn value(expression: &str, a: u32, b: u32) -> u32 {
+    let expression = expression.replace('a', "v0").replace('b', "v1");
+    let text = format!("set v2 = {expression}");
+    let mut table = [0; MOST_TABLE_WORDS];
+    let Read::Recipe { rows, .. } = read(text.as_bytes(), &mut table).read else {
+        panic!("refused: {text}")
+    };
+    let rows = &table[..rows as usize * ROW_WORDS];
+    let mut memory = [0; VARIABLES];
+    memory[..2].copy_from_slice(&[a, b]);
+    run(rows, &mut memory, 0, 1, &mut []);
+    memory[2]
+}
+
+#[test]
+fn a_quotient_by_zero_is_what_its_page_says() {
+    let page = file("docs/RECIPES.md");
+    let wanted = "| a over b, but 0 where b is 0 |";
+    let (_, written) = page.split_once(wanted).expect(wanted);
+    let numbers = [0, 1, 5, 1000, 4294967294, 4294967295u32];
+    for (a, b) in numbers.iter().flat_map(|a| numbers.map(|b| (*a, b))) {
+        let quotient = a.checked_div(b);
+        assert_eq!(value("(a / b)", a, b), quotient.unwrap_or(4294967295));
+        assert_eq!(value(quoted(written)[0], a, b), quotient.unwrap_or(0));
     }
 }

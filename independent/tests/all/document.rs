@@ -131,10 +131,14 @@ fn j() {
     };
     assert_eq!(value(0, 4294967295, 1), Some(0));
     assert_eq!(value(1, 0, 1), Some(4294967295));
-    assert_eq!(value(3, 5, 0), Some(0));
+    assert_eq!(value(3, 5, 0), Some(4294967295));
     // The other operators: 65536 * 65537 = 2^32 + 65536.
     assert_eq!(value(2, 65536, 65537), Some(65536));
     assert_eq!(value(3, 7, 2), Some(3));
+    // By 0 the dividend does not matter; of a divisor that is not 0 it does.
+    assert_eq!(value(3, 0, 0), Some(4294967295));
+    assert_eq!(value(3, 4294967295, 0), Some(4294967295));
+    assert_eq!((value(3, 0, 5), value(3, 5, 5)), (Some(0), Some(1)));
     assert_eq!((value(4, 3, 3), value(4, 3, 4)), (Some(1), Some(0)));
     assert_eq!((value(5, 3, 4), value(5, 4, 3)), (Some(1), Some(0)));
     assert_eq!((value(5, 3, 3), value(6, 3, 3)), (Some(0), None));
