@@ -2,7 +2,8 @@
 
 use super::*;
 use independent::recipes::*;
-use independent::run::unwatched;
+use independent::run::{run_told, unwatched};
+use independent::tree::{Expression, Memory};
 
 /// "budget used up gives verdict 2; else a denied output gives 1; else an output without
 /// room gives 3"
@@ -228,4 +229,26 @@ fn order_of_rows() {
             assert_eq!((one.marks, one.records), (other.marks, other.records));
         }
     }
+}
+
+/// A run tells each expression whose value it takes, and no other; of these the dividends by 0.
+#[test]
+fn quotients_by_zero_are_told() {
+    let quotient = |left: Part, right: Part| binary(3, left, right);
+    let twice = quotient(quotient(constant(7), variable(1)), variable(1));
+    let part = sequence(
+        assign(2, quotient(variable(0), variable(1))),
+        if_else(variable(0), skip(), output(1, twice)),
+    );
+    let words = lay(&part);
+    let dividends = |values: &[u32]| {
+        let memory = inputs(values).memory;
+        let mut dividends = Vec::new();
+        let mut told = |e: &Expression, m: &Memory| dividends.extend(e.divided_by_zero(m));
+        run_told(&words, memory, 0, 100, &mut [0; 2], &mut told);
+        dividends
+    };
+    assert_eq!(dividends(&[5, 0]), [5]);
+    assert_eq!(dividends(&[0, 0]), [0, 7, 4294967295]);
+    assert_eq!(dividends(&[0, 2]), []);
 }
