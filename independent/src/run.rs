@@ -191,14 +191,10 @@ impl Watched<'_> {
         !self.pile.is_empty() || expression.provisional(&self.marks)
     }
 
-    fn value(&mut self, expression: &Expression) -> u32 {
+    /// The memory in which the value of this expression is taken now, which is told.
+    fn memory_for(&mut self, expression: &Expression) -> &Memory {
         (self.told)(expression, &self.reached.memory);
-        expression.value(&self.reached.memory)
-    }
-
-    /// "A test holds when its value is not 0."
-    fn holds(&mut self, test: &Expression) -> bool {
-        self.value(test) != 0
+        &self.reached.memory
     }
 
     /// "A sequence takes no step of its own." A call for each row of the tree at most is
@@ -220,7 +216,7 @@ impl Watched<'_> {
     /// "It is marked if the expression or the context is provisional, and unmarked otherwise."
     fn assign(&mut self, variable: usize, expression: &Expression) -> Result<(), Stop> {
         self.reached.step()?;
-        let value = self.value(expression);
+        let value = expression.value(self.memory_for(expression));
         self.marks[variable] = self.provisional(expression);
         self.reached.memory[variable] = value;
         Ok(())
@@ -235,7 +231,7 @@ impl Watched<'_> {
         otherwise: &Statement,
     ) -> Result<(), Stop> {
         self.reached.step()?;
-        let (taken, not_taken) = if self.holds(test) {
+        let (taken, not_taken) = if test.holds(self.memory_for(test)) {
             (then, otherwise)
         } else {
             (otherwise, then)
@@ -252,7 +248,7 @@ impl Watched<'_> {
     fn walk_while(&mut self, test: &Expression, body: &Statement) -> Result<(), Stop> {
         loop {
             self.reached.step()?;
-            let holds = self.holds(test);
+            let holds = test.holds(self.memory_for(test));
             if self.provisional(test) {
                 // "push the empty set"; where the test fails, "the set that the body may assign"
                 let set = if holds { EMPTY } else { body.may_assign() };
@@ -287,7 +283,7 @@ impl Watched<'_> {
         }
         self.reached.need_room(row)?;
         self.reached.step()?;
-        let value = self.value(expression);
+        let value = expression.value(self.memory_for(expression));
         self.reached.record(channel, value);
         Ok(())
     }
