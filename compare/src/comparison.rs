@@ -307,12 +307,11 @@ impl OnTable<'_> {
             of_zero |= dividends.contains(&0);
             of_another |= dividends.iter().any(|dividend| *dividend != 0);
         };
-        let budget = given.budget;
         run_told(
             &self.words,
             memory,
             self.marks,
-            budget,
+            given.budget,
             &mut trace,
             &mut told,
         );
