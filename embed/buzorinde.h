@@ -28,7 +28,7 @@
 
 /* The version of this header: a number changes whenever something here changes its meaning. */
 #define BUZORINDE_VERSION_MAJOR 0
-#define BUZORINDE_VERSION_MINOR 3
+#define BUZORINDE_VERSION_MINOR 4
 #define BUZORINDE_VERSION_PATCH 0
 
 /* The version as one number that grows, to be compared. */
@@ -50,7 +50,7 @@ enum {
     BUZORINDE_VARIABLES = 32,
     BUZORINDE_JUDGE_WORDS = 3,
     BUZORINDE_CHECK_WORDS = 4,
-    BUZORINDE_RUN_WORDS = 6,
+    BUZORINDE_RUN_WORDS = 7, /* 6 before version 0.4.0: a caller that lends 6 is told BUZORINDE_ANSWER_TOO_SHORT */
     BUZORINDE_READ_WORDS = 7
 };
 
@@ -84,6 +84,8 @@ enum {
     BUZORINDE_STEPS = 3,   /* of a run: the steps taken */
     BUZORINDE_RECORDS = 4, /* of a run: how many records the trace begins with, two words each: channel, value */
     BUZORINDE_MARKS = 5,   /* of a run: the mark set reached; bit i set means that variable i is provisional */
+    BUZORINDE_BECAUSE = 6, /* of a run with BUZORINDE_STOPPED: the set of the provisional variables that the output's expression
+                              reads, bit i for variable i, or 0 where it reads none and its context alone is provisional; else 0 */
     BUZORINDE_READ_ROWS = 3,  /* of a reading: how many rows the table begins with, or 0 where it is refused */
     BUZORINDE_READ_START = 4, /* of a reading: where the part of the text starts that is handed back */
     BUZORINDE_READ_SIZE = 5,  /* of a reading: how many bytes that part has */
@@ -168,7 +170,7 @@ uint32_t buzorinde_check(const uint32_t *table, size_t table_words, uint32_t mar
  * equal in every variable that is not marked: with any budgets and traces, one run's records of channel 0 begin the other's, and
  * they are equal where both runs are done. So every such record may be relied on, and nothing follows from one that is missing:
  * whether it appears may depend on marked variables. So may how long the call takes, whether the run comes to its end, verdict,
- * row, steps, the number of records, memory, and the marks of a run that is not done. */
+ * row, steps, the number of records, memory, what a run was stopped because of, and the marks of a run that is not done. */
 uint32_t buzorinde_run(const uint32_t *table, size_t table_words, uint32_t *memory, size_t memory_words, uint32_t marks,
                        uint32_t budget, uint32_t *trace, size_t trace_words, uint32_t *answer, size_t answer_words);
 

@@ -7,7 +7,8 @@ int main(void) {
     uint32_t memory[BUZORINDE_VARIABLES] = {7, 9}, trace[4] = {0}, answer[BUZORINDE_RUN_WORDS] = {0};
     uint32_t status = buzorinde_run(table, 20, memory, BUZORINDE_VARIABLES, 2, 10, trace, 4, answer, BUZORINDE_RUN_WORDS);
     printf("status=%u refusal=%u verdict=%u row=%u\n", status, answer[BUZORINDE_REFUSAL], answer[BUZORINDE_VERDICT], answer[BUZORINDE_ROW]);
-    printf("steps=%u records=%u marks=%u\n", answer[BUZORINDE_STEPS], answer[BUZORINDE_RECORDS], answer[BUZORINDE_MARKS]);
+    printf("steps=%u records=%u marks=%u because=%u\n", answer[BUZORINDE_STEPS], answer[BUZORINDE_RECORDS], answer[BUZORINDE_MARKS],
+           answer[BUZORINDE_BECAUSE]);
     for (uint32_t i = 0; i < answer[BUZORINDE_RECORDS]; i++)
         printf("out=%u,%u\n", trace[2 * i], trace[2 * i + 1]);
     status = buzorinde_judge(table, 19, answer, BUZORINDE_JUDGE_WORDS);
@@ -16,5 +17,5 @@ int main(void) {
     printf("status=%u verdict=%u row=%u marks=%u\n", status, answer[BUZORINDE_VERDICT], answer[BUZORINDE_ROW], answer[BUZORINDE_CHECK_MARKS]);
     printf("status=%u\n", buzorinde_judge(table, 20, answer, 2));
     printf("status=%u\n", buzorinde_run(table, 20, memory, 31, 2, 10, trace, 4, answer, BUZORINDE_RUN_WORDS));
-    printf("status=%u\n", buzorinde_run(table, 20, memory, 31, 2, 10, trace, 4, answer, 5));
+    printf("status=%u\n", buzorinde_run(table, 20, memory, 31, 2, 10, trace, 4, answer, 6));
 }

@@ -5,7 +5,7 @@
 #include <string>
 #include <vector>
 
-static_assert(BUZORINDE_VERSION == 300, "this program is for version 0.3.0");
+static_assert(BUZORINDE_VERSION == 400, "this program is for version 0.4.0");
 
 using Answer = std::array<uint32_t, BUZORINDE_RUN_WORDS>;
 
@@ -20,8 +20,8 @@ static void run_and_print(const std::vector<uint32_t> &table, uint32_t marks, st
         std::cout << buzorinde_refusal_text(answer[BUZORINDE_REFUSAL]);
     else
         std::cout << buzorinde_verdict_text(answer[BUZORINDE_VERDICT]);
-    std::cout << ": row " << answer[BUZORINDE_ROW] << ", steps " << answer[BUZORINDE_STEPS] << ", records "
-              << answer[BUZORINDE_RECORDS] << "\ntrace";
+    std::cout << ": row " << answer[BUZORINDE_ROW] << ", because " << answer[BUZORINDE_BECAUSE] << ", steps "
+              << answer[BUZORINDE_STEPS] << ", records " << answer[BUZORINDE_RECORDS] << "\ntrace";
     for (uint32_t word : trace)
         std::cout << ' ' << word;
     std::cout << '\n';

@@ -74,16 +74,16 @@ fn report(job: &str) -> String {
     }
     let mut trace = vec![0; 2 * room as usize];
     let answer = watched::run(&table, &mut memory, marks, budget, &mut trace);
-    let (verdict, place) = match answer.ended {
-        Ended::Done => (0, 0),
-        Ended::Stopped(row) => (1, row),
-        Ended::Spent => (2, 0),
-        Ended::NoRoom(row) => (3, row),
+    let (verdict, place, because) = match answer.ended {
+        Ended::Done => (0, 0, 0),
+        Ended::Stopped { row, because } => (1, row, because),
+        Ended::Spent => (2, 0, 0),
+        Ended::NoRoom(row) => (3, row, 0),
         Ended::Refused { number, row } => return format!("refused={number}\nat={row}\n"),
     };
     let mem: Vec<String> = memory.iter().map(u32::to_string).collect();
     let mut text = format!(
-        "verdict={verdict}\nplace={place}\nsteps={}\nlevels={}\nmarked={}\nmem={}\nrecords={}\n",
+        "verdict={verdict}\nplace={place}\nbecause={because}\nsteps={}\nlevels={}\nmarked={}\nmem={}\nrecords={}\n",
         answer.steps,
         answer.marks,
         answer.marks.count_ones(),

@@ -123,7 +123,10 @@ pub fn run(
             [5, channel, expression, _] => {
                 let (value, level) = evaluate(rows, expression, memory, marks);
                 if channel == 0 && (level != 0 || !pile.is_empty()) {
-                    break Ended::Stopped(at);
+                    break Ended::Stopped {
+                        row: at,
+                        because: level,
+                    };
                 }
                 let Some(record) = trace.get_mut(2 * records..2 * records + 2) else {
                     break Ended::NoRoom(at);

@@ -30,7 +30,7 @@ impl Ran {
     }
 
     fn stopped(&self) -> bool {
-        matches!(self.answer.ended, Ended::Stopped(_))
+        matches!(self.answer.ended, Ended::Stopped { .. })
     }
 }
 

@@ -82,12 +82,16 @@ fn levels(words: &[u32], marks: u32) -> (Outcome, u32) {
 fn run(words: &[u32], memory: Memory, marks: u32, budget: u32, trace: &mut [u32]) -> (Answer, u32) {
     let mut reached = memory;
     let answer = buzorinde::run(words, &mut reached, marks, budget, trace);
-    let ended = |verdict, place| End::Ended { verdict, place };
+    let ended = |verdict, place, because| End::Ended {
+        verdict,
+        place,
+        because,
+    };
     let end = match answer.ended {
-        Ended::Done => ended(Verdict::Done, 0),
-        Ended::Stopped(row) => ended(Verdict::Denied, row),
-        Ended::Spent => ended(Verdict::BudgetUsed, 0),
-        Ended::NoRoom(row) => ended(Verdict::NoRoom, row),
+        Ended::Done => ended(Verdict::Done, 0, 0),
+        Ended::Stopped { row, because } => ended(Verdict::Denied, row, because),
+        Ended::Spent => ended(Verdict::BudgetUsed, 0, 0),
+        Ended::NoRoom(row) => ended(Verdict::NoRoom, row, 0),
         Ended::Refused { number, row } => End::Refused(Refusal { number, at: row }),
     };
     let given = Answer {

@@ -157,22 +157,28 @@ fn write_ended(refused: u32, number: u32, row: u32) {
     write_number(row);
 }
 
+// The same of a run, and what it was stopped because of.
 fn write_end_of_run(ended: Ended) {
     match ended {
         Ended::Done => {
             write_ended(0, 0, 0);
+            write_number(0);
         }
-        Ended::Stopped(row) => {
+        Ended::Stopped { row, because } => {
             write_ended(0, 1, row);
+            write_number(because);
         }
         Ended::Spent => {
             write_ended(0, 2, 0);
+            write_number(0);
         }
         Ended::NoRoom(row) => {
             write_ended(0, 3, row);
+            write_number(0);
         }
         Ended::Refused { number, row } => {
             write_ended(1, number, row);
+            write_number(0);
         }
     }
 }

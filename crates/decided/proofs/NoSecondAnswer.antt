@@ -4,7 +4,7 @@ use Rattle.rules.specs.declared.Judged.{Judged}
 use Rattle.rules.specs.declared.Answer.{Answer}
 use Rattle.rules.specs.declared.Advice.{Advice}
 use Rattle.rules.specs.Answers.{Said, Advised, Whole, saidOfJudge, advisedOf, toldOf, telling}
-use Rattle.rules.proofs.AnswerLaws.{judged-unique, checked-unique, ended-unique, told-said, told-steps, told-records, told-memory, told-marks}
+use Rattle.rules.proofs.AnswerLaws.{judged-unique, checked-unique, ended-unique, told-said, told-because, told-steps, told-records, told-memory, told-marks}
 use Rattle.expression.proofs.SaidLaws.{evaluation-unique, assigned-unique}
 use Rattle.numbers.proofs.FieldLaws.{field-unique}
 use Rattle.job.proofs.JobLaws.{reading-unique}
@@ -30,7 +30,9 @@ advised-once {a} {b} e f =
 
 told-once : {a b : Answer} (whole : Whole) → toldOf a ≡ telling whole → toldOf b ≡ telling whole → a ≡ b
 told-once {a} {b} whole e f =
-    let ended = ended-unique (a .ended) (b .ended) (same (told-said a whole e) (told-said b whole f)) in
+    let ended =
+    ended-unique (a .ended) (b .ended) (same (told-said a whole e) (told-said b whole f)) (same (told-because a whole e) (told-because b whole f))
+    in
     let steps = same (told-steps a whole e) (told-steps b whole f) in
     let records = same (told-records a whole e) (told-records b whole f) in
     let words = same (told-memory a whole e) (told-memory b whole f) in

@@ -9,7 +9,7 @@ use Rattle.rules.specs.declared.Answer.{Answer}
 use Rattle.rules.specs.Limits.{width, rowWords, recordWords, mostTraceWords, tableWords}
 use Rattle.rules.specs.Running.{Record}
 use Rattle.rules.specs.Answers.{Whole, Inputs, inputs, answer, toldOf, telling, traceWordsOf, traceAfter, RunAnswers}
-use Rattle.rules.proofs.AnswerLaws.{trace-words-none, trace-words-cons, trace-after-law, told-said, told-steps, told-records, told-memory, told-marks}
+use Rattle.rules.proofs.AnswerLaws.{trace-words-none, trace-words-cons, trace-after-law, told-said, told-because, told-steps, told-records, told-memory, told-marks}
 use Rattle.job.specs.Limits.{mostRoom}
 use Rattle.job.specs.declared.Read.{Read}
 use Rattle.job.specs.declared.Reading.{Reading}
@@ -58,6 +58,7 @@ module _ (a : Answer) (i : Inputs) (trace : List ℕ) (answered : RunAnswers i a
   unfolding wholeOf
   whole-told = λ i. record {
     said = told-said a w says i;
+    because = told-because a w says i;
     steps = told-steps a w says i;
     records = records-told i;
     memory = told-memory a w says i;

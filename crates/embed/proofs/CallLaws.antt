@@ -11,8 +11,8 @@ use borrow.Author.Tests.{lt-ltb, le-ltb}
 use Rattle.rules.specs.declared.Advice.{Advice}
 use Rattle.rules.specs.declared.Answer.{Answer}
 use Rattle.rules.specs.Limits.{width, wordBits}
-use Rattle.rules.specs.Answers.{Said, Whole, Inputs, inputs, Advised, advisedOf, judgement, advice, answer, traceAfter, saidOfRun, saidOfCheck, toldOf, telling, RunAnswers}
-use Rattle.rules.proofs.AnswerLaws.{told-said, told-steps, told-records, told-memory, told-marks}
+use Rattle.rules.specs.Answers.{Said, Whole, Inputs, inputs, Advised, advisedOf, judgement, advice, answer, traceAfter, saidOfRun, becauseOf, saidOfCheck, toldOf, telling, RunAnswers}
+use Rattle.rules.proofs.AnswerLaws.{told-said, told-because, told-steps, told-records, told-memory, told-marks}
 use Rattle.language.specs.declared.Said as language
 use Rattle.language.specs.Readings.{handed, Reading, Reads}
 use Rattle.language.proofs.OneAnswer.{one-answer}
@@ -86,31 +86,32 @@ module _ (i : Inputs) (buffer : List ℕ) where
         status = answered;
         memory = take width (a .memory .words) ++ drop width (i .memory);
         trace = trace′;
-        answer = laid (saidWords (numbersOf (saidOfRun (a .ended))) ++ a .steps ∷ a .records ∷ a .marks ∷ []) buffer;
+        answer = laid (saidWords (numbersOf (saidOfRun (a .ended))) ++ a .steps ∷ a .records ∷ a .marks ∷ becauseOf (a .ended) ∷ []) buffer;
       }
   run-answered a trace′ h m l given =
       ap₂ (λ (x y : Bool). runCallBy x y i buffer) (le-ltb (length buffer) runLength h) (le-ltb (length (i .memory)) width m)
       ∙ ranCall-told (answer (firstWords i)) (given .told)
-      ∙ ap (λ (k : List ℕ). record { status = answered; memory = take width (a .memory .words) ++ drop width (i .memory); trace = k; answer = laid (saidWords (numbersOf (saidOfRun (a .ended))) ++ a .steps ∷ a .records ∷ a .marks ∷ []) buffer }) (sym (given .trace-after))
+      ∙ ap (λ (k : List ℕ). record { status = answered; memory = take width (a .memory .words) ++ drop width (i .memory); trace = k; answer = laid (saidWords (numbersOf (saidOfRun (a .ended))) ++ a .steps ∷ a .records ∷ a .marks ∷ becauseOf (a .ended) ∷ []) buffer }) (sym (given .trace-after))
     where
       ranCall-told : (w : Whole) → toldOf a ≡ telling w
           → ranCall w i buffer ≡ record {
             status = answered;
             memory = take width (a .memory .words) ++ drop width (i .memory);
             trace = traceAfter (w .records) (i .trace);
-            answer = laid (saidWords (numbersOf (saidOfRun (a .ended))) ++ a .steps ∷ a .records ∷ a .marks ∷ []) buffer;
+            answer = laid (saidWords (numbersOf (saidOfRun (a .ended))) ++ a .steps ∷ a .records ∷ a .marks ∷ becauseOf (a .ended) ∷ []) buffer;
           }
       ranCall-told w told =
           let s = sym (told-said a w told) in
           let n = sym (told-steps a w told) in
           let r = sym (told-records a w told) in
           let k = sym (told-marks a w told) in
+          let b = sym (told-because a w told) in
           let words = sym (told-memory a w told) ∙ sym (take-all width (a .memory .words) (omega arith)) in
           λ j. record {
             status = answered;
             memory = words j ++ drop width (i .memory);
             trace = traceAfter (w .records) (i .trace);
-            answer = laid (saidWords (numbersOf (s j)) ++ n j ∷ r j ∷ k j ∷ []) buffer;
+            answer = laid (saidWords (numbersOf (s j)) ++ n j ∷ r j ∷ k j ∷ b j ∷ []) buffer;
           }
 
 -- ---- a reading

@@ -22,9 +22,10 @@ numbersOf (fail row) = record { refusal = 0; verdict = 1; row = row }
 abbrev pub saidWords : Numbers → List ℕ
 saidWords n = n .refusal ∷ n .verdict ∷ n .row ∷ []
 
--- 11.3: After these a run's answer has the steps, the number of records and the marks, ..
+-- 11.3: After these a run's answer has the steps, the number of records, the marks and the set of what it was stopped
+-- because of, ..
 abbrev pub runWords : Whole → List ℕ
-runWords w = saidWords (numbersOf (w .said)) ++ w .steps ∷ length (w .records) ∷ w .marks ∷ []
+runWords w = saidWords (numbersOf (w .said)) ++ w .steps ∷ length (w .records) ∷ w .marks ∷ w .because ∷ []
 
 -- 11.3: .. a check's answer the marks, ..
 abbrev pub checkWords : Advised → List ℕ
@@ -62,7 +63,7 @@ abbrev pub checkLength : ℕ
 checkLength = 4
 
 abbrev pub runLength : ℕ
-runLength = 6
+runLength = 7
 
 abbrev pub readLength : ℕ
 readLength = 7

@@ -15,7 +15,7 @@ ghost use mathlib.Core.List.{[], _∷_, _++_};
 ghost use Prim.Native.Nat.{_%_, _^_, _≤_};
 ghost use lib.ListN.{length};
 ghost use Rattle.rules.specs.Limits.{wordBits};
-ghost use Rattle.rules.specs.Answers.{inputs, saidOfJudge, saidOfRun, saidOfCheck};
+ghost use Rattle.rules.specs.Answers.{inputs, saidOfJudge, saidOfRun, becauseOf, saidOfCheck};
 ghost use Rattle.embed.specs.Calls.{numbersOf, saidWords, laid, judgeLength, checkLength, runLength, readLength, judgeCall, checkCall, runCall, ReadCalls};
 
 // What a call returns: that it has answered, or which buffer was too short.
@@ -30,7 +30,7 @@ const JUDGE_WORDS: usize = 3;
 
 const CHECK_WORDS: usize = 4;
 
-const RUN_WORDS: usize = 6;
+const RUN_WORDS: usize = 7;
 
 const READ_WORDS: usize = 7;
 
@@ -79,10 +79,20 @@ fn run_numbers(ended: Ended) -> Numbers
 {
     match ended {
         Ended::Done => verdict_numbers(0, 0),
-        Ended::Stopped(row) => verdict_numbers(1, row),
+        Ended::Stopped { row, .. } => verdict_numbers(1, row),
         Ended::Spent => verdict_numbers(2, 0),
         Ended::NoRoom(row) => verdict_numbers(3, row),
         Ended::Refused { number, row } => refused_numbers(number, row),
+    }
+}
+
+// What a run was stopped because of, as a set.
+fn because_of(ended: Ended) -> Marks
+    ensures { λ r. ⌜ r ≡ becauseOf ended ⌝ }
+{
+    match ended {
+        Ended::Stopped { because, .. } => because,
+        _ => 0,
     }
 }
 
@@ -116,15 +126,24 @@ fn put_check(answer: &mut [u32], numbers: Numbers, marks: Marks)
     answer[3] = marks;
 }
 
-// Lays a run's numbers, steps, records and marks over the first words of the answer.
-fn put_run(answer: &mut [u32], numbers: Numbers, steps: u32, records: u32, marks: Marks)
+// Lays a run's numbers, steps, records, marks and what it was stopped because of over the first words of the answer.
+fn put_run(
+    answer: &mut [u32],
+    numbers: Numbers,
+    steps: u32,
+    records: u32,
+    marks: Marks,
+    because: Marks,
+)
     requires { ⌜ runLength ≤ length (now answer) ⌝ }
-    ensures { λ _. ⌜ now (answer .exit) ≡ laid (saidWords numbers ++ steps ∷ records ∷ marks ∷ []) (now (answer .entry)) ⌝ }
+    ensures { λ _. ⌜
+        now (answer .exit) ≡ laid (saidWords numbers ++ steps ∷ records ∷ marks ∷ because ∷ []) (now (answer .entry)) ⌝ }
 {
     put_numbers(answer, numbers);
     answer[3] = steps;
     answer[4] = records;
     answer[5] = marks;
+    answer[6] = because;
 }
 
 // A number of bytes as a word.
@@ -180,7 +199,8 @@ pub extern "C" fn buzorinde_check(table: &[u32], marks: Marks, answer: &mut [u32
 }
 
 // The run under the monitor. Memory is lent: its first 32 words are those of the variables, before and after. The answer's
-// six words are the refusal's number or 0, the verdict, the place or the refusal's row, steps, records and marks.
+// seven words are the refusal's number or 0, the verdict, the place or the refusal's row, steps, records, marks, and what the run was
+// stopped because of.
 #[no_mangle]
 pub extern "C" fn buzorinde_run(
     table: &[u32],
@@ -212,6 +232,7 @@ pub extern "C" fn buzorinde_run(
         reached.steps,
         reached.records,
         reached.marks,
+        because_of(ended),
     );
     ANSWERED
 }

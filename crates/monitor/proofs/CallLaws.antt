@@ -14,7 +14,7 @@ use Rattle.rules.specs.Judging.{judge}
 use Rattle.rules.specs.Running.{Item, statement, State, state, Record, run}
 use Rattle.rules.specs.Bounds.{mostPending, Bounds}
 use Rattle.rules.specs.Sound.{Sound}
-use Rattle.rules.specs.Answers.{Whole, Inputs, inputs, saidOfRun, reached, answered, answer, traceAfter, toldOf, telling, Tells, RunAnswers, termsOf}
+use Rattle.rules.specs.Answers.{Whole, Inputs, inputs, saidOfRun, becauseOf, reached, answered, answer, traceAfter, toldOf, telling, Tells, RunAnswers, termsOf}
 use Rattle.rules.proofs.RowLaws.{statement-left}
 use Rattle.rules.proofs.JudgeLaws.{accepted-sound, accepted-count}
 use Rattle.rules.proofs.TreeLaws.{recipe-law}
@@ -31,6 +31,7 @@ use Rattle.monitor.specs.Going.{leftIn, Went}
 abbrev shown : List ℕ → Reached → Whole
 shown trace r = record {
   said = saidOfRun (r .ended);
+  because = becauseOf (r .ended);
   steps = r .steps;
   records = recordsOf trace (r .held .records);
   memory = r .memory .words;
@@ -108,7 +109,7 @@ pub ran-told :
     → Tells w (i .trace) a t′
 ran-told i e p h e′ p′ t′ r went w is a ea = record {
   told =
-      telling-law a (shown t′ r) (ap (λ (x : Answer). saidOfRun (x .ended)) ea) (ap (λ (x : Answer). x .steps) ea)
+      telling-law a (shown t′ r) (ap (λ (x : Answer). saidOfRun (x .ended)) ea) (ap (λ (x : Answer). becauseOf (x .ended)) ea) (ap (λ (x : Answer). x .steps) ea)
       (ap (λ (x : Answer). x .records) ea ∙ sym (records-length t′ (r .held .records))) (ap (λ (x : Answer). x .memory .words) ea) (ap (λ (x : Answer). x .marks) ea)
       ∙ ap telling (sym is);
   trace-after =
@@ -127,6 +128,6 @@ pub away-told :
     → a ≡ record { ended = Ended.Refused number row; steps = 0; records = 0; memory = record { words = i .memory }; marks = i .marks }
     → RunAnswers i a (i .trace)
 away-told i number row is a ea = record {
-  told = ap toldOf ea ∙ telling-law _ (turnedAway number row i) refl refl refl refl refl ∙ ap telling (sym is);
+  told = ap toldOf ea ∙ telling-law _ (turnedAway number row i) refl refl refl refl refl refl ∙ ap telling (sym is);
   trace-after = sym (trace-kept (i .trace)) ∙ ap (λ (x : Whole). traceAfter (x .records) (i .trace)) (sym is);
 }

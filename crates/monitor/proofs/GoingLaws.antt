@@ -78,12 +78,12 @@ module _ (rows : List Row) (a₀ : Arrays) (h₀ : Held) (budget : ℕ) where
     }
 
     pub stopped-here :
-        steps ≢ budget → (row : ℕ) (a′ : Arrays) → Stays rows a h a′ (denied row)
+        steps ≢ budget → (row because : ℕ) (a′ : Arrays) → Stays rows a h a′ (denied row because)
         → Went rows a₀ h₀ budget (a′ .entries) (a′ .pile) (a′ .trace)
-        (record { ended = Ended.Stopped row; steps = steps; held = h; memory = record { words = a′ .words } })
-    stopped-here other row a′ x =
-        ends-here (Ended.Stopped row) (denied row) a′ x
-        (one-more other ∙ run-stopped T (budget - (steps + 1)) (stateOf rows a h steps) row (same-room _ _ (x .step steps)))
+        (record { ended = Ended.Stopped row because; steps = steps; held = h; memory = record { words = a′ .words } })
+    stopped-here other row because a′ x =
+        ends-here (Ended.Stopped row because) (denied row because) a′ x
+        (one-more other ∙ run-stopped T (budget - (steps + 1)) (stateOf rows a h steps) row because (same-room _ _ (x .step steps)))
 
     pub full-here :
         steps ≢ budget → (row : ℕ) (a′ : Arrays) → Stays rows a h a′ (roomless row)

@@ -77,8 +77,13 @@ fn go_on(
                 here = next;
                 steps += 1;
             }
-            Turn::Stopped(row) => {
-                return end_run(Ended::Stopped(row), steps, here, Memory { words });
+            Turn::Stopped { row, because } => {
+                return end_run(
+                    Ended::Stopped { row, because },
+                    steps,
+                    here,
+                    Memory { words },
+                );
             }
             Turn::NoRoom(row) => {
                 return end_run(Ended::NoRoom(row), steps, here, Memory { words });

@@ -11,14 +11,14 @@ use lib.Seq.{sets-eq}
 use borrow.Author.Tests.{lt-leb, le-leb}
 use Rattle.rules.specs.declared.Answer.{Answer}
 use Rattle.rules.specs.declared.Ended.{Ended}
-use Rattle.rules.specs.Answers.{Said, verdict, saidOfRun}
+use Rattle.rules.specs.Answers.{Said, verdict, saidOfRun, becauseOf}
 use Rattle.rules.specs.Limits.{width, recordWords}
 use Rattle.rules.specs.Marks.{marked}
 use Rattle.rules.specs.Running.{Record}
 use Rattle.report.specs.declared.Wrote.{Wrote}
 use Rattle.lines.specs.Numbers.{decimal}
 use Rattle.lines.specs.Lines.{lineEnd, comma, levelsKey, fieldText, fieldsText, lineText, oneText}
-use Rattle.report.specs.Reports.{refusedKey, atKey, verdictKey, placeKey, stepsKey, markedKey, memKey, recordsKey, outKey, refusalText, headText, memoryText, recordText, recordsText, runText, saidText, report}
+use Rattle.report.specs.Reports.{refusedKey, atKey, verdictKey, placeKey, becauseKey, stepsKey, markedKey, memKey, recordsKey, outKey, refusalText, headText, memoryText, recordText, recordsText, runText, saidText, report}
 use Rattle.lines.specs.Limits.{mostDigits}
 use Rattle.report.specs.Written.{Placed, mostField, mostLine, mostHead, mostMemory, mostRecord, mostRefusal, mostRun, WroteSaid, bytes, tooShort, lacking, saidOfWrote, Written, fitted, placedIn, recordsOf, wholeOf, counted, refusalWritten, runWritten, endedWritten, reportWritten}
 use Rattle.lines.proofs.NumberLaws.{drop-next}
@@ -77,20 +77,23 @@ placed-memory values h p q e =
     (placed-then (fieldText memKey (getD values 0 0)) (fieldsText (replicate (width - 1) comma) (drop 1 values) ++ lineEnd) p
     (placed-then (fieldsText (replicate (width - 1) comma) (drop 1 values)) lineEnd q e))
 
-pub placed-head : {out : List ℕ} {r₁ r₂ r₃ r₄ r₅ : ℕ} {o₁ o₂ o₃ o₄ o₅ : List ℕ} (number place steps marks ones : ℕ) → marked marks ≡ ones
+pub placed-head : {out : List ℕ} {r₁ r₂ r₃ r₄ r₅ r₆ : ℕ} {o₁ o₂ o₃ o₄ o₅ o₆ : List ℕ} (number place because steps marks ones : ℕ)
+    → marked marks ≡ ones
     → Placed out 0 (oneText verdictKey number) (mostLine verdictKey) r₁ o₁
     → Placed o₁ r₁ (oneText placeKey place) (mostLine placeKey) r₂ o₂
-    → Placed o₂ r₂ (oneText stepsKey steps) (mostLine stepsKey) r₃ o₃
-    → Placed o₃ r₃ (oneText levelsKey marks) (mostLine levelsKey) r₄ o₄
-    → Placed o₄ r₄ (oneText markedKey ones) (mostLine markedKey) r₅ o₅
-    → Placed out 0 (headText number place steps marks) mostHead r₅ o₅
+    → Placed o₂ r₂ (oneText becauseKey because) (mostLine becauseKey) r₃ o₃
+    → Placed o₃ r₃ (oneText stepsKey steps) (mostLine stepsKey) r₄ o₄
+    → Placed o₄ r₄ (oneText levelsKey marks) (mostLine levelsKey) r₅ o₅
+    → Placed o₅ r₅ (oneText markedKey ones) (mostLine markedKey) r₆ o₆
+    → Placed out 0 (headText number place because steps marks) mostHead r₆ o₆
 unfolding headText
-placed-head number place steps marks ones e p₁ p₂ p₃ p₄ p₅ =
+placed-head number place because steps marks ones e p₁ p₂ p₃ p₄ p₅ p₆ =
     placed-then _ (oneText markedKey (marked marks))
     (placed-then _ (oneText levelsKey marks)
     (placed-then _ (oneText stepsKey steps)
-    (placed-then (oneText verdictKey number) (oneText placeKey place) p₁ p₂) p₃) p₄)
-    (placed-as (ap (oneText markedKey) (sym e)) p₅)
+    (placed-then _ (oneText becauseKey because)
+    (placed-then (oneText verdictKey number) (oneText placeKey place) p₁ p₂) p₃) p₄) p₅)
+    (placed-as (ap (oneText markedKey) (sym e)) p₆)
 
 pub placed-refusal : {out : List ℕ} {r₁ r₂ : ℕ} {o₁ o₂ : List ℕ} (number at : ℕ)
     → Placed out 0 (oneText refusedKey number) (mostLine refusedKey) r₁ o₁ → Placed o₁ r₁ (oneText atKey at) (mostLine atKey) r₂ o₂
@@ -177,17 +180,17 @@ records-counted (suc n) [] h = absurd (omega arith)
 records-counted (suc n) (channel ∷ []) h = absurd (omega arith)
 records-counted (suc n) (channel ∷ value ∷ trace) h = ap suc (records-counted n trace (omega arith))
 
-pub placed-run : {out : List ℕ} {r₁ r₂ r₃ r₄ : ℕ} {o₁ o₂ o₃ o₄ : List ℕ} (number place : ℕ) (a : Answer) (trace : List ℕ)
-    → recordWords * a .records ≤ length trace → Placed out 0 (headText number place (a .steps) (a .marks)) mostHead r₁ o₁
+pub placed-run : {out : List ℕ} {r₁ r₂ r₃ r₄ : ℕ} {o₁ o₂ o₃ o₄ : List ℕ} (number place because : ℕ) (a : Answer) (trace : List ℕ)
+    → recordWords * a .records ≤ length trace → Placed out 0 (headText number place because (a .steps) (a .marks)) mostHead r₁ o₁
     → Placed o₁ r₁ (memoryText (a .memory .words)) mostMemory r₂ o₂
     → Placed o₂ r₂ (oneText recordsKey (a .records)) (mostLine recordsKey) r₃ o₃
     → Placed o₃ r₃ (recordsText (recordsOf (a .records) trace)) (mostRecord * a .records) r₄ o₄
-    → Placed out 0 (runText number place (wholeOf a trace)) (mostRun (a .records)) r₄ o₄
+    → Placed out 0 (runText number place because (wholeOf a trace)) (mostRun (a .records)) r₄ o₄
 unfolding runText wholeOf
-placed-run number place a trace h p₁ p₂ p₃ p₄ =
+placed-run number place because a trace h p₁ p₂ p₃ p₄ =
     placed-then _ (recordsText (recordsOf (a .records) trace))
     (placed-then _ (oneText recordsKey (length (recordsOf (a .records) trace)))
-    (placed-then (headText number place (a .steps) (a .marks)) (memoryText (a .memory .words)) p₁ p₂)
+    (placed-then (headText number place because (a .steps) (a .marks)) (memoryText (a .memory .words)) p₁ p₂)
     (placed-as (ap (oneText recordsKey) (sym (records-counted (a .records) trace h))) p₃))
     p₄
 
@@ -223,28 +226,29 @@ module _ (records : ℕ) (text trace out : List ℕ) where
   run-counted h = ap (λ (b : Bool). counted b records text out) (sym (le-leb (recordWords * records) (length trace) h))
 
 -- an answer that says a verdict: the text is a run's
-report-verdict : (a : Answer) (trace : List ℕ) (number place : ℕ) → saidOfRun (a .ended) ≡ verdict number place
-    → runText number place (wholeOf a trace) ≡ report (wholeOf a trace)
+report-verdict : (a : Answer) (trace : List ℕ) (number place because : ℕ) → saidOfRun (a .ended) ≡ verdict number place → becauseOf (a .ended) ≡ because
+    → runText number place because (wholeOf a trace) ≡ report (wholeOf a trace)
 unfolding report saidText wholeOf
-report-verdict a trace number place e = sym (ap (λ (said : Said). saidText said (wholeOf a trace)) e)
+report-verdict a trace number place because e f =
+    ap (λ (set : ℕ). runText number place set (wholeOf a trace)) (sym f) ∙ sym (ap (λ (said : Said). saidText said (wholeOf a trace)) e)
 
 -- each way to end that says a verdict writes the report
 ended-verdict : (e : Ended) (number place : ℕ) → saidOfRun e ≡ verdict number place → (a : Answer) (trace out : List ℕ)
     → runWritten (a .records) (report (wholeOf a trace)) trace out ≡ endedWritten e a trace out
 unfolding endedWritten
 ended-verdict Ended.Done number place said a trace out = refl
-ended-verdict (Ended.Stopped row) number place said a trace out = refl
+ended-verdict (Ended.Stopped row because) number place said a trace out = refl
 ended-verdict Ended.Spent number place said a trace out = refl
 ended-verdict (Ended.NoRoom row) number place said a trace out = refl
 ended-verdict (Ended.Refused refusal row) number place said a trace out = let z : _≡_ {A = ℕ} 0 1 = cc in absurd (omega arith)
 
 module _ (a : Answer) (trace out : List ℕ) where
-  pub written-verdict : (e : Ended) (number place : ℕ) → a .ended ≡ e → saidOfRun e ≡ verdict number place
-      → runWritten (a .records) (runText number place (wholeOf a trace)) trace out ≡ reportWritten a trace out
+  pub written-verdict : (e : Ended) (number place because : ℕ) → a .ended ≡ e → saidOfRun e ≡ verdict number place → becauseOf e ≡ because
+      → runWritten (a .records) (runText number place because (wholeOf a trace)) trace out ≡ reportWritten a trace out
   unfolding reportWritten
-  written-verdict e number place h said =
+  written-verdict e number place because h said set =
       let s = ap saidOfRun h ∙ said in
-      ap (λ (text : List ℕ). runWritten (a .records) text trace out) (report-verdict a trace number place s)
+      ap (λ (text : List ℕ). runWritten (a .records) text trace out) (report-verdict a trace number place because s (ap becauseOf h ∙ set))
       ∙ ended-verdict (a .ended) number place s a trace out
 
   pub written-refused : (number row : ℕ) → a .ended ≡ Ended.Refused number row → refusalWritten number row out ≡ reportWritten a trace out
@@ -282,7 +286,7 @@ module _ (room : ℕ) (out : List ℕ) (fits : room ≤ length out) where
 
       by : (e : Ended) → a .ended ≡ e → endedWritten e a trace out ≡ placedIn room (report (wholeOf a trace)) out
       by Ended.Done e = ran
-      by (Ended.Stopped row) e = ran
+      by (Ended.Stopped row because) e = ran
       by Ended.Spent e = ran
       by (Ended.NoRoom row) e = ran
       by (Ended.Refused number row) e =

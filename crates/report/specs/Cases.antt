@@ -10,6 +10,7 @@ use Rattle.report.specs.Reports.{refusalText, report}
 abbrev whole : Said → Whole
 whole said = record {
   said = said;
+  because = 10;
   steps = 8;
   records = record { channel = 1; value = 4294967295 } ∷ record { channel = 0; value = 5 } ∷ [];
   memory = 4 ∷ 6 ∷ 9 ∷ replicate 29 0;
@@ -32,13 +33,15 @@ badTable =
     -- at=0
     97 ∷ 116 ∷ 61 ∷ 48 ∷ 10 ∷ []
 
--- verdict 1 at row 17
+-- verdict 1 at row 17, because of v1 and v3
 abbrev stoppedRun : List ℕ
 stoppedRun =
     -- verdict=1
     118 ∷ 101 ∷ 114 ∷ 100 ∷ 105 ∷ 99 ∷ 116 ∷ 61 ∷ 49 ∷ 10 ∷
     -- place=17
     112 ∷ 108 ∷ 97 ∷ 99 ∷ 101 ∷ 61 ∷ 49 ∷ 55 ∷ 10 ∷
+    -- because=10
+    98 ∷ 101 ∷ 99 ∷ 97 ∷ 117 ∷ 115 ∷ 101 ∷ 61 ∷ 49 ∷ 48 ∷ 10 ∷
     -- steps=8
     115 ∷ 116 ∷ 101 ∷ 112 ∷ 115 ∷ 61 ∷ 56 ∷ 10 ∷
     -- levels=11
@@ -58,8 +61,9 @@ stoppedRun =
 abbrev pub RefusalsPrinted : Type 0
 RefusalsPrinted = (refusalText 7 12 ≡ faultyJob) × (report (whole (refused 4 0)) ≡ badTable)
 
--- 9.13: The report of a run is the lines `verdict=`, `place=`, `steps=`, `levels=` with the final mark set, `marked=` with
--- how many variables it marks, `mem=` with the memory's values and commas between them, `records=` with their number, and
--- for each record a line `out=` with its channel, a comma and its value.
+-- 9.13: The report of a run is the lines `verdict=`, `place=`, `because=` with the set of what it was stopped because of,
+-- `steps=`, `levels=` with the final mark set, `marked=` with how many variables it marks, `mem=` with the memory's values
+-- and commas between them, `records=` with their number, and for each record a line `out=` with its channel, a comma and its
+-- value.
 abbrev pub RunPrinted : Type 0
 RunPrinted = report (whole (verdict 1 17)) ≡ stoppedRun

@@ -25,6 +25,10 @@ verdictKey = 118 ∷ 101 ∷ 114 ∷ 100 ∷ 105 ∷ 99 ∷ 116 ∷ 61 ∷ []
 abbrev pub placeKey : List ℕ
 placeKey = 112 ∷ 108 ∷ 97 ∷ 99 ∷ 101 ∷ 61 ∷ []
 
+-- because=
+abbrev pub becauseKey : List ℕ
+becauseKey = 98 ∷ 101 ∷ 99 ∷ 97 ∷ 117 ∷ 115 ∷ 101 ∷ 61 ∷ []
+
 -- steps=
 abbrev pub stepsKey : List ℕ
 stepsKey = 115 ∷ 116 ∷ 101 ∷ 112 ∷ 115 ∷ 61 ∷ []
@@ -63,23 +67,25 @@ recordsText (r ∷ records) = recordText r ++ recordsText records
 unfoldable pub memoryText : List ℕ → List ℕ
 memoryText memory = lineText (memKey ∷ replicate (length memory - 1) comma) memory
 
--- 9.13: The report of a run is the lines `verdict=`, `place=`, `steps=`, `levels=` with the final mark set, `marked=` with
--- how many variables it marks, ..
-unfoldable pub headText : ℕ → ℕ → ℕ → ℕ → List ℕ
-headText number place steps marks =
+-- 9.13: The report of a run is the lines `verdict=`, `place=`, `because=` with the set of what it was stopped because of,
+-- `steps=`, `levels=` with the final mark set, `marked=` with how many variables it marks, ..
+unfoldable pub headText : ℕ → ℕ → ℕ → ℕ → ℕ → List ℕ
+headText number place because steps marks =
     oneText verdictKey number
     ++ oneText placeKey place
+    ++ oneText becauseKey because
     ++ oneText stepsKey steps
     ++ oneText levelsKey marks
     ++ oneText markedKey (marked marks)
 
--- from its verdict and place
--- 9.13: The report of a run is the lines `verdict=`, `place=`, `steps=`, `levels=` with the final mark set, `marked=` with
--- how many variables it marks, `mem=` with the memory's values and commas between them, `records=` with their number, and
--- for each record a line `out=` with its channel, a comma and its value.
-unfoldable pub runText : ℕ → ℕ → Whole → List ℕ
-runText number place w =
-    headText number place (w .steps) (w .marks)
+-- from its verdict, its place and what it was stopped because of
+-- 9.13: The report of a run is the lines `verdict=`, `place=`, `because=` with the set of what it was stopped because of,
+-- `steps=`, `levels=` with the final mark set, `marked=` with how many variables it marks, `mem=` with the memory's values
+-- and commas between them, `records=` with their number, and for each record a line `out=` with its channel, a comma and its
+-- value.
+unfoldable pub runText : ℕ → ℕ → ℕ → Whole → List ℕ
+runText number place because w =
+    headText number place because (w .steps) (w .marks)
     ++ memoryText (w .memory)
     ++ oneText recordsKey (length (w .records))
     ++ recordsText (w .records)
@@ -87,7 +93,7 @@ runText number place w =
 -- A run answers a verdict or a refusal, and nothing else.
 unfoldable pub saidText : Said → Whole → List ℕ
 saidText (refused refusal row) w = refusalText refusal row
-saidText (verdict number place) w = runText number place w
+saidText (verdict number place) w = runText number place (w .because) w
 saidText accepted w = []
 saidText pass w = []
 saidText (fail row) w = []

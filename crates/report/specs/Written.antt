@@ -10,11 +10,11 @@ use Rattle.rules.specs.declared.Ended.{Ended}
 use Rattle.rules.specs.declared.Answer.{Answer}
 use Rattle.rules.specs.Limits.{width, recordWords}
 use Rattle.rules.specs.Running.{Record}
-use Rattle.rules.specs.Answers.{saidOfRun, Whole}
+use Rattle.rules.specs.Answers.{saidOfRun, becauseOf, Whole}
 use Rattle.report.specs.declared.Wrote.{Wrote}
 use Rattle.lines.specs.Limits.{mostDigits}
 use Rattle.lines.specs.Lines.{comma, lineEnd, levelsKey}
-use Rattle.report.specs.Reports.{refusedKey, atKey, verdictKey, placeKey, stepsKey, markedKey, memKey, recordsKey, outKey, refusalText, report}
+use Rattle.report.specs.Reports.{refusedKey, atKey, verdictKey, placeKey, becauseKey, stepsKey, markedKey, memKey, recordsKey, outKey, refusalText, report}
 
 -- The bytes stand in the buffer from a place on, they are no more than most, and next is the place after them.
 pub record Placed (out : List ℕ) (at : ℕ) (bytes : List ℕ) (most next : ℕ) (left : List ℕ) : Type 0 where
@@ -31,7 +31,7 @@ abbrev pub mostLine : List ℕ → ℕ
 mostLine key = mostField key + length lineEnd
 
 abbrev pub mostHead : ℕ
-mostHead = mostLine verdictKey + mostLine placeKey + mostLine stepsKey + mostLine levelsKey + mostLine markedKey
+mostHead = mostLine verdictKey + mostLine placeKey + mostLine becauseKey + mostLine stepsKey + mostLine levelsKey + mostLine markedKey
 
 abbrev pub mostMemory : ℕ
 mostMemory = length memKey + width * (mostDigits + 1)
@@ -88,6 +88,7 @@ recordsOf (suc n) (channel ∷ value ∷ words) = record { channel = channel; va
 unfoldable pub wholeOf : Answer → List ℕ → Whole
 wholeOf a trace = record {
   said = saidOfRun (a .ended);
+  because = becauseOf (a .ended);
   steps = a .steps;
   records = recordsOf (a .records) trace;
   memory = a .memory .words;
@@ -104,7 +105,7 @@ runWritten records text trace out = counted (leb (recordWords * records) (length
 
 unfoldable pub endedWritten : Ended → Answer → List ℕ → List ℕ → Written
 endedWritten Ended.Done a trace out = runWritten (a .records) (report (wholeOf a trace)) trace out
-endedWritten (Ended.Stopped row) a trace out = runWritten (a .records) (report (wholeOf a trace)) trace out
+endedWritten (Ended.Stopped row because) a trace out = runWritten (a .records) (report (wholeOf a trace)) trace out
 endedWritten Ended.Spent a trace out = runWritten (a .records) (report (wholeOf a trace)) trace out
 endedWritten (Ended.NoRoom row) a trace out = runWritten (a .records) (report (wholeOf a trace)) trace out
 endedWritten (Ended.Refused number row) a trace out = refusalWritten number row out

@@ -1,6 +1,7 @@
 // Writes a report. Every function here that puts bytes takes the buffer and a place, and answers the place after them.
 use rules::Answer;
 use rules::Ended;
+use rules::Marks;
 use rules::VARIABLES;
 ghost use mathlib.Core.Path.{_≡_};
 ghost use Prim.Native.Nat.{_+_, _-_, _*_, _≤_, _<_};
@@ -15,7 +16,7 @@ ghost use Rattle.report.specs.Written.{Placed, mostField, mostLine, most
 // The most bytes of a refusal's report; of a run's report but for its records; and of a record.
 const REFUSAL_BYTES: usize = 33;
 
-pub const RUN_BYTES: usize = 464;
+pub const RUN_BYTES: usize = 483;
 
 pub const RECORD_BYTES: usize = 26;
 
@@ -82,13 +83,21 @@ fn put_line(out: &mut [u8], at: usize, key: &[u8], n: u32) -> usize
 }
 
 // Puts the lines before the memory's.
-fn put_head(out: &mut [u8], verdict: u32, place: u32, steps: u32, marks: u32) -> usize
+fn put_head(
+    out: &mut [u8],
+    verdict: u32,
+    place: u32,
+    because: Marks,
+    steps: u32,
+    marks: Marks,
+) -> usize
     requires { ⌜ mostHead ≤ length (now out) ⌝ }
-    ensures { λ r. ⌜ Placed (now (out .entry)) 0 (headText verdict place steps marks) mostHead r (now (out .exit)) ⌝ }
+    ensures { λ r. ⌜ Placed (now (out .entry)) 0 (headText verdict place because steps marks) mostHead r (now (out .exit)) ⌝ }
 {
     let after_verdict = put_line(out, 0, b"verdict=", verdict);
     let after_place = put_line(out, after_verdict, b"place=", place);
-    let after_steps = put_line(out, after_place, b"steps=", steps);
+    let after_because = put_line(out, after_place, b"because=", because);
+    let after_steps = put_line(out, after_because, b"steps=", steps);
     let after_levels = put_line(out, after_steps, b"levels=", marks);
     put_line(out, after_levels, b"marked=", u32::count_ones(marks))
 }
@@ -171,26 +180,40 @@ pub fn write_refusal(number: u32, at: u32, out: &mut [u8]) -> Wrote
     Wrote::Bytes(put_line(out, after_number, b"at=", at))
 }
 
-// Puts the report of a run that ended with a verdict at a place.
-fn put_run(verdict: u32, place: u32, answer: Answer, trace: &[u32], out: &mut [u8]) -> usize
+// Puts the report of a run that ended with a verdict at a place, because of some variables.
+fn put_run(
+    verdict: u32,
+    place: u32,
+    because: Marks,
+    answer: Answer,
+    trace: &[u32],
+    out: &mut [u8],
+) -> usize
     requires { ⌜ (recordWords * (answer .records) ≤ length (now trace)) × (mostRun (answer .records) ≤ length (now out)) ⌝ }
     ensures { λ r. ⌜
-        Placed (now (out .entry)) 0 (runText verdict place (wholeOf answer (now (trace .entry))))
+        Placed (now (out .entry)) 0 (runText verdict place because (wholeOf answer (now (trace .entry))))
         (mostRun (answer .records)) r (now (out .exit)) ⌝ }
 {
     let memory = answer.memory;
     let records = answer.records;
-    let after_head = put_head(out, verdict, place, answer.steps, answer.marks);
+    let after_head = put_head(out, verdict, place, because, answer.steps, answer.marks);
     let after_memory = put_memory(out, after_head, &memory.words);
     let after_count = put_line(out, after_memory, b"records=", records);
     put_records(out, after_count, trace, records as usize)
 }
 
-// Writes the report of a run that ended with a verdict at a place.
-fn write_run(verdict: u32, place: u32, answer: Answer, trace: &[u32], out: &mut [u8]) -> Wrote
+// Writes the report of a run that ended with a verdict at a place, because of some variables.
+fn write_run(
+    verdict: u32,
+    place: u32,
+    because: Marks,
+    answer: Answer,
+    trace: &[u32],
+    out: &mut [u8],
+) -> Wrote
     ensures { λ r. ⌜
         (record { said = saidOfWrote r; out = now (out .exit) })
-        ≡ runWritten (answer .records) (runText verdict place (wholeOf answer (now (trace .entry))))
+        ≡ runWritten (answer .records) (runText verdict place because (wholeOf answer (now (trace .entry))))
         (now (trace .entry)) (now (out .entry)) ⌝ }
 {
     let records = answer.records as usize;
@@ -200,7 +223,7 @@ fn write_run(verdict: u32, place: u32, answer: Answer, trace: &[u32], out: &mut 
     if out.len() < RUN_BYTES + RECORD_BYTES * records {
         return Wrote::TooShort;
     }
-    Wrote::Bytes(put_run(verdict, place, answer, trace, out))
+    Wrote::Bytes(put_run(verdict, place, because, answer, trace, out))
 }
 
 // Writes the report of an answer, whose records are the first words of the trace.
@@ -211,10 +234,10 @@ pub fn write_report(answer: Answer, trace: &[u32], out: &mut [u8]) -> Wrote
 {
     let ended = answer.ended;
     match ended {
-        Ended::Done => write_run(0, 0, answer, trace, out),
-        Ended::Stopped(row) => write_run(1, row, answer, trace, out),
-        Ended::Spent => write_run(2, 0, answer, trace, out),
-        Ended::NoRoom(row) => write_run(3, row, answer, trace, out),
+        Ended::Done => write_run(0, 0, 0, answer, trace, out),
+        Ended::Stopped { row, because } => write_run(1, row, because, answer, trace, out),
+        Ended::Spent => write_run(2, 0, 0, answer, trace, out),
+        Ended::NoRoom(row) => write_run(3, row, 0, answer, trace, out),
         Ended::Refused { number, row } => write_refusal(number, row, out),
     }
 }

@@ -1,4 +1,5 @@
--- Two memories that are equal in every settled variable give a settled expression one value; and more marks give higher levels.
+-- Two memories that are equal in every settled variable give a settled expression one value; more marks give higher levels; a
+-- level has marked variables alone.
 use Prim.Native.Nat.{ℕ}
 use mathlib.Core.Bool.{Bool, true, false, cond, not, true≢false}
 use mathlib.Core.List.{List}
@@ -9,7 +10,7 @@ use lib.ListN.{getD}
 use Rattle.rules.specs.Marks.{none, has, only, union, _⊆_, provisional}
 use Rattle.rules.specs.Trees.{Expr, constant, variable, binary}
 use Rattle.rules.specs.Values.{operate, value, holds, level}
-use Rattle.rules.proofs.MarkLaws.{has-only-same, settled-union, has-provisional, provisional-mono, none-subset, subset-refl, subset-union-left, subset-union-right, union-least}
+use Rattle.rules.proofs.MarkLaws.{has-only-same, settled-union, has-provisional, provisional-mono, none-subset, subset-refl, only-subset, subset-union-left, subset-union-right, union-least}
 
 -- ---- two memories that are equal in every settled variable give a settled expression one value
 
@@ -53,6 +54,17 @@ level-mono a b sub (binary o d e) =
 
 pub level-rises : (a b : ℕ) → a ⊆ b → (e : Expr) → provisional (level a e) ≡ true → provisional (level b e) ≡ true
 level-rises a b sub e h = provisional-mono (level a e) (level b e) (level-mono a b sub e) h
+
+-- a level has marked variables alone
+pub level-within : (marks : ℕ) (e : Expr) → level marks e ⊆ marks
+unfolding level
+level-within marks (constant c) = none-subset marks
+level-within marks (variable v) = by (has marks v) refl
+  where
+    by : (b : Bool) → has marks v ≡ b → cond b (only v) none ⊆ marks
+    by true h = only-subset v marks h
+    by false h = none-subset marks
+level-within marks (binary o a b) = union-least (level marks a) (level marks b) marks (level-within marks a) (level-within marks b)
 
 -- ---- a test holds when its value is not 0
 

@@ -3,22 +3,27 @@
 use Prim.Native.Nat.{ℕ, _/_, _≤_, _<_}
 use mathlib.Core.Bool.{Bool, true, false, cond}
 use mathlib.Core.List.{List, [], _∷_, _++_}
-use mathlib.Core.Path.{_≡_, refl, sym, ap, _∙_}
+use mathlib.Core.Path.{_≡_, refl, sym, ap, ap₂, _∙_}
 use lib.Dec.{eqb, ltb}
 use lib.ListN.{length, drop}
 use borrow.Author.Tests.{lt-ltb, le-ltb}
+use denote.Enum.Declared.{tagOf}
+use types.Run.{OneOf, miss}
+use Rattle.rules.proofs.Ended as ended-type
 use Rattle.rules.specs.declared.Judged.{Judged}
 use Rattle.rules.specs.declared.Ended.{Ended}
 use Rattle.rules.specs.declared.Checked.{Checked}
 use Rattle.rules.specs.declared.Answer.{Answer}
 use Rattle.rules.specs.Limits.{recordWords, mostTraceWords}
+use Rattle.rules.specs.Marks.{none}
 use Rattle.rules.specs.Rows.{rowsOf}
 use Rattle.rules.specs.Trees.{recipe}
 use Rattle.rules.specs.Judging.{orElse, judge, judgeTrace}
 use Rattle.rules.specs.Running.{statement, State, state, blank, start, Record}
 use Rattle.rules.specs.LevelCheck.{walk, checkedOf}
-use Rattle.rules.specs.Answers.{Told, Said, accepted, refused, verdict, pass, fail, saidOfJudge, saidOfRun, saidOfCheck, Whole, Inputs, inputs, final, started, admitted, answered, termsOf, answer, traceWordsOf, traceAfter, advised, advice, judgement, toldOf, telling}
+use Rattle.rules.specs.Answers.{Told, Said, accepted, refused, verdict, pass, fail, saidOfJudge, saidOfRun, becauseOf, saidOfCheck, Whole, Inputs, inputs, final, started, admitted, answered, termsOf, answer, traceWordsOf, traceAfter, advised, advice, judgement, toldOf, telling}
 use Rattle.rules.specs.Sound.{Sound}
+use Rattle.rules.proofs.MarkLaws.{none-zero}
 use Rattle.rules.proofs.JudgeLaws.{orElse-accepted, accepted-sound}
 
 -- the state from which a recipe starts, by its parts
@@ -39,7 +44,14 @@ shown-law i = refl
 
 -- what a refused run answers
 abbrev pub turnedAway : ℕ → ℕ → Inputs → Whole
-turnedAway number row i = record { said = refused number row; steps = 0; records = []; memory = i .memory; marks = i .marks }
+turnedAway number row i = record {
+  said = refused number row;
+  because = none;
+  steps = 0;
+  records = [];
+  memory = i .memory;
+  marks = i .marks;
+}
 
 -- A call runs, on an accepted table, or is refused.
 pub data Call (i : Inputs) : Type 0 where
@@ -90,11 +102,21 @@ module _ (words m : List ℕ) (l b : ℕ) (t t′ : List ℕ) (e : length t ≡ 
       ap (λ (n : ℕ). answered (orElse (judge words) (judgeTrace n)) (inputs words m l b t)) e
       ∙ by-length (orElse (judge words) (judgeTrace (length t′)))
 
+-- ---- what a run is stopped because of
+
+-- however else it ended, of no variable
+pub because-none : (e : Ended) → OneOf (0 ∷ 2 ∷ 3 ∷ 4 ∷ []) (tagOf ended-type.the-type e) → becauseOf e ≡ 0
+because-none Ended.Done among = none-zero
+because-none (Ended.Stopped row because) among = absurd (miss (0 ∷ 2 ∷ 3 ∷ 4 ∷ []) 1 tt among)
+because-none Ended.Spent among = none-zero
+because-none (Ended.NoRoom row) among = none-zero
+because-none (Ended.Refused number row) among = none-zero
+
 -- ---- what an answer tells
 
-pub telling-law : (a : Answer) (w : Whole) → saidOfRun (a .ended) ≡ w .said → a .steps ≡ w .steps → a .records ≡ length (w .records) → a .memory .words ≡ w .memory → a .marks ≡ w .marks → toldOf a ≡ telling w
+pub telling-law : (a : Answer) (w : Whole) → saidOfRun (a .ended) ≡ w .said → becauseOf (a .ended) ≡ w .because → a .steps ≡ w .steps → a .records ≡ length (w .records) → a .memory .words ≡ w .memory → a .marks ≡ w .marks → toldOf a ≡ telling w
 unfolding toldOf telling
-telling-law a w es en er em el = λ i. record { said = es i; steps = en i; records = er i; memory = em i; marks = el i }
+telling-law a w es eb en er em el = λ i. record { said = es i; because = eb i; steps = en i; records = er i; memory = em i; marks = el i }
 
 -- ---- the trace afterwards
 
@@ -159,24 +181,25 @@ judged-back (Judged.Refused number row) = refl
 pub judged-unique : (a b : Judged) → saidOfJudge a ≡ saidOfJudge b → a ≡ b
 judged-unique a b e = sym (judged-back a) ∙ ap judgedBack e ∙ judged-back b
 
-endedBack : Said → Ended
-endedBack accepted = Ended.Done
-endedBack (refused number row) = Ended.Refused number row
-endedBack (verdict number place) =
-    cond (eqb number 0) Ended.Done (cond (eqb number 1) (Ended.Stopped place) (cond (eqb number 2) Ended.Spent (Ended.NoRoom place)))
-endedBack pass = Ended.Done
-endedBack (fail row) = Ended.Done
+endedBack : Said → ℕ → Ended
+endedBack accepted because = Ended.Done
+endedBack (refused number row) because = Ended.Refused number row
+endedBack (verdict number place) because =
+    cond (eqb number 0) Ended.Done
+    (cond (eqb number 1) (Ended.Stopped place because) (cond (eqb number 2) Ended.Spent (Ended.NoRoom place)))
+endedBack pass because = Ended.Done
+endedBack (fail row) because = Ended.Done
 
-ended-back : (a : Ended) → endedBack (saidOfRun a) ≡ a
+ended-back : (a : Ended) → endedBack (saidOfRun a) (becauseOf a) ≡ a
 unfolding endedBack
 ended-back Ended.Done = refl
-ended-back (Ended.Stopped row) = refl
+ended-back (Ended.Stopped row because) = refl
 ended-back Ended.Spent = refl
 ended-back (Ended.NoRoom row) = refl
 ended-back (Ended.Refused number row) = refl
 
-pub ended-unique : (a b : Ended) → saidOfRun a ≡ saidOfRun b → a ≡ b
-ended-unique a b e = sym (ended-back a) ∙ ap endedBack e ∙ ended-back b
+pub ended-unique : (a b : Ended) → saidOfRun a ≡ saidOfRun b → becauseOf a ≡ becauseOf b → a ≡ b
+ended-unique a b e f = sym (ended-back a) ∙ ap₂ endedBack e f ∙ ended-back b
 
 checkedBack : Said → Checked
 checkedBack accepted = Checked.Pass
@@ -218,6 +241,10 @@ module _ (a : Answer) (w : Whole) (told : toldOf a ≡ telling w) where
   pub told-said : saidOfRun (a .ended) ≡ w .said
   unfolding toldOf telling
   told-said = ap (λ (x : Told). x .said) told
+
+  pub told-because : becauseOf (a .ended) ≡ w .because
+  unfolding toldOf telling
+  told-because = ap (λ (x : Told). x .because) told
 
   pub told-steps : a .steps ≡ w .steps
   unfolding toldOf telling

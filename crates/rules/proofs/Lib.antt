@@ -13,6 +13,7 @@ pub mod AgreeLaws
 pub mod RangeLaws
 pub mod RunLaws
 pub mod RunInvariants
+pub mod StopLaws
 pub mod BoundLaws
 pub mod PlainLaws
 pub mod LevelLaws

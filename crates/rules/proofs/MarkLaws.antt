@@ -278,6 +278,13 @@ subset-antisym a b f g = marks-ext a b (λ i. both (has a i) (has b i) (f i) (g 
 pub none-subset : (a : ℕ) → none ⊆ a
 none-subset a i h = absurd (subst T (has-none i) h)
 
+pub only-subset : (i a : ℕ) → has a i ≡ true → only i ⊆ a
+only-subset i a h j t = by (eqb j i) refl
+  where
+    by : (b : Bool) → eqb j i ≡ b → T (has a j)
+    by true e = subst (λ (n : ℕ). T (has a n)) (sym (eqb-true j i e)) (subst T (sym h) tt)
+    by false e = absurd (subst T (has-only-other i j (eqb-false j i e)) t)
+
 pub subset-union-left : (a b : ℕ) → a ⊆ union a b
 subset-union-left a b i h = subst T (sym (has-union a b i)) (left (has a i) (has b i) h)
   where

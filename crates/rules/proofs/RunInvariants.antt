@@ -17,7 +17,7 @@ use Rattle.rules.specs.Answers.{refused, saidOfRun}
 -- the fact holds of the state after the step, if the step was taken
 abbrev Kept : (State → Type 0) → Attempt → Type 0
 Kept Fact finished = Unit {0}
-Kept Fact (denied row) = Unit {0}
+Kept Fact (denied row because) = Unit {0}
 Kept Fact (roomless row) = Unit {0}
 Kept Fact (taken σ) = Fact σ
 
@@ -70,11 +70,11 @@ module _ (Fact : List Item → List ℕ → ℕ → List ℕ → Log → Type 0)
   turned-kept true e s k σ f = keeps .turn-kept f
   turned-kept false e s k σ f = keeps .leave-kept f
 
-  output-kept : (deny room : Bool) (row : ℕ) (σ : State) → Of σ → Kept Of (outputAttempt deny room row σ)
+  output-kept : (deny room : Bool) (row because : ℕ) (σ : State) → Of σ → Kept Of (outputAttempt deny room row because σ)
   unfolding outputAttempt
-  output-kept true room row σ f = tt
-  output-kept false false row σ f = tt
-  output-kept false true row σ f = f
+  output-kept true room row because σ f = tt
+  output-kept false false row because σ f = tt
+  output-kept false true row because σ f = f
 
   begin-kept :
       (s : Stmt) (k : List Item) (σ : State) → Fact (statement s ∷ k) (σ .memory) (σ .marks) (σ .pile) (σ .log)
@@ -86,7 +86,7 @@ module _ (Fact : List Item → List ℕ → ℕ → List ℕ → Log → Type 0)
   begin-kept (if e s t) k σ f = branched-kept (holds (σ .memory) e) e s t k σ f
   begin-kept (while e s) k σ f = turned-kept (holds (σ .memory) e) e s k σ f
   begin-kept (output channel e row) k σ f =
-      output-kept (isDenied channel e σ) (ltb (length (σ .log .records)) (terms .room)) row (recorded channel e k σ) (keeps .record-kept f)
+      output-kept (isDenied channel e σ) (ltb (length (σ .log .records)) (terms .room)) row _ (recorded channel e k σ) (keeps .record-kept f)
 
   closed-kept :
       (k : List Item) (m : List ℕ) (l : ℕ) (p : List ℕ) (g : Log) → Fact (close ∷ k) m l p g
@@ -106,7 +106,7 @@ module _ (Fact : List Item → List ℕ → ℕ → List ℕ → Log → Type 0)
   followed : (onward : State → Outcome) → ((σ : State) → Of σ → Of (onward σ .state)) → (σ : State) (a : Attempt) → Of σ → Kept Of a → Of (follow onward σ a .state)
   unfolding follow
   followed onward later σ finished f g = f
-  followed onward later σ (denied row) f g = f
+  followed onward later σ (denied row because) f g = f
   followed onward later σ (roomless row) f g = f
   followed onward later σ (taken next) f g = later next g
 
@@ -134,11 +134,11 @@ module _ (terms : Terms) where
   turned-counts true e s k σ = refl
   turned-counts false e s k σ = refl
 
-  output-counts : (deny room : Bool) (row n : ℕ) (σ : State) → σ .log .steps ≡ n + 1 → Counts n (outputAttempt deny room row σ)
+  output-counts : (deny room : Bool) (row because n : ℕ) (σ : State) → σ .log .steps ≡ n + 1 → Counts n (outputAttempt deny room row because σ)
   unfolding outputAttempt
-  output-counts true room row n σ e = tt
-  output-counts false false row n σ e = tt
-  output-counts false true row n σ e = e
+  output-counts true room row because n σ e = tt
+  output-counts false false row because n σ e = tt
+  output-counts false true row because n σ e = e
 
   begin-counts : (s : Stmt) (k : List Item) (σ : State) → Counts (σ .log .steps) (begin terms s k σ)
   unfolding begin skipped assigned recorded
@@ -148,7 +148,7 @@ module _ (terms : Terms) where
   begin-counts (if e s t) k σ = branched-counts (holds (σ .memory) e) e s t k σ
   begin-counts (while e s) k σ = turned-counts (holds (σ .memory) e) e s k σ
   begin-counts (output channel e row) k σ =
-      output-counts (isDenied channel e σ) (ltb (length (σ .log .records)) (terms .room)) row (σ .log .steps) (recorded channel e k σ) refl
+      output-counts (isDenied channel e σ) (ltb (length (σ .log .records)) (terms .room)) row _ (σ .log .steps) (recorded channel e k σ) refl
 
   attempt-counts : (k : List Item) (σ : State) → Counts (σ .log .steps) (attempt terms k σ)
   unfolding attempt closed
@@ -161,7 +161,7 @@ module _ (terms : Terms) where
       → Counts (σ .log .steps) a → follow onward σ a .state .log .steps ≤ σ .log .steps + suc budget
   unfolding follow
   follow-steps onward budget later σ finished c = omega arith
-  follow-steps onward budget later σ (denied row) c = omega arith
+  follow-steps onward budget later σ (denied row because) c = omega arith
   follow-steps onward budget later σ (roomless row) c = omega arith
   follow-steps onward budget later σ (taken next) c = omega (arith, later next)
 
@@ -176,13 +176,13 @@ module _ (terms : Terms) where
 
 abbrev Unfinished : Attempt → Type 0
 Unfinished finished = ⊥
-Unfinished (denied row) = Unit {0}
+Unfinished (denied row because) = Unit {0}
 Unfinished (roomless row) = Unit {0}
 Unfinished (taken σ) = Unit {0}
 
 abbrev IsDone : Ended → Type 0
 IsDone Ended.Done = Unit {0}
-IsDone (Ended.Stopped row) = ⊥
+IsDone (Ended.Stopped row because) = ⊥
 IsDone Ended.Spent = ⊥
 IsDone (Ended.NoRoom row) = ⊥
 IsDone (Ended.Refused number row) = ⊥
@@ -193,11 +193,11 @@ data Told (o : Outcome) : Type 0 where
   busy : (IsDone (o .ended) → ⊥) → (item : Item) (rest : List Item) → o .state .pending ≡ item ∷ rest → Told o
 
 module _ (terms : Terms) where
-  output-unfinished : (deny room : Bool) (row : ℕ) (σ : State) → Unfinished (outputAttempt deny room row σ)
+  output-unfinished : (deny room : Bool) (row because : ℕ) (σ : State) → Unfinished (outputAttempt deny room row because σ)
   unfolding outputAttempt
-  output-unfinished true room row σ = tt
-  output-unfinished false false row σ = tt
-  output-unfinished false true row σ = tt
+  output-unfinished true room row because σ = tt
+  output-unfinished false false row because σ = tt
+  output-unfinished false true row because σ = tt
 
   begin-unfinished : (s : Stmt) (k : List Item) (σ : State) → Unfinished (begin terms s k σ)
   unfolding begin
@@ -207,14 +207,14 @@ module _ (terms : Terms) where
   begin-unfinished (if e s t) k σ = tt
   begin-unfinished (while e s) k σ = tt
   begin-unfinished (output channel e row) k σ =
-      output-unfinished (isDenied channel e σ) (ltb (length (σ .log .records)) (terms .room)) row (recorded channel e k σ)
+      output-unfinished (isDenied channel e σ) (ltb (length (σ .log .records)) (terms .room)) row _ (recorded channel e k σ)
 
   follow-told :
       (onward : State → Outcome) → ((σ : State) → Told (onward σ)) → (item : Item) (k : List Item) (m : List ℕ) (l : ℕ) (p : List ℕ)
       (g : Log) (a : Attempt) → Unfinished a → Told (follow onward (state (item ∷ k) m l p g) a)
   unfolding follow
   follow-told onward later item k m l p g finished u = absurd u
-  follow-told onward later item k m l p g (denied row) u = busy (λ d. d) item k refl
+  follow-told onward later item k m l p g (denied row because) u = busy (λ d. d) item k refl
   follow-told onward later item k m l p g (roomless row) u = busy (λ d. d) item k refl
   follow-told onward later item k m l p g (taken next) u = later next
 
@@ -242,7 +242,7 @@ module _ (terms : Terms) where
 
 abbrev Verdict : Ended → Type 0
 Verdict Ended.Done = Unit {0}
-Verdict (Ended.Stopped row) = Unit {0}
+Verdict (Ended.Stopped row because) = Unit {0}
 Verdict Ended.Spent = Unit {0}
 Verdict (Ended.NoRoom row) = Unit {0}
 Verdict (Ended.Refused number row) = ⊥
@@ -251,7 +251,7 @@ module _ (terms : Terms) where
   follow-verdict : (onward : State → Outcome) → ((σ : State) → Verdict (onward σ .ended)) → (σ : State) (a : Attempt) → Verdict (follow onward σ a .ended)
   unfolding follow
   follow-verdict onward later σ finished = tt
-  follow-verdict onward later σ (denied row) = tt
+  follow-verdict onward later σ (denied row because) = tt
   follow-verdict onward later σ (roomless row) = tt
   follow-verdict onward later σ (taken next) = later next
 
@@ -267,7 +267,7 @@ module _ (terms : Terms) where
 
   unrefused : (ended : Ended) → Verdict ended → (number row : ℕ) → saidOfRun ended ≡ refused number row → ⊥
   unrefused Ended.Done v number row e = let z : _≡_ {A = ℕ} 0 1 = cc in omega arith
-  unrefused (Ended.Stopped place) v number row e = let z : _≡_ {A = ℕ} 0 1 = cc in omega arith
+  unrefused (Ended.Stopped place because) v number row e = let z : _≡_ {A = ℕ} 0 1 = cc in omega arith
   unrefused Ended.Spent v number row e = let z : _≡_ {A = ℕ} 0 1 = cc in omega arith
   unrefused (Ended.NoRoom place) v number row e = let z : _≡_ {A = ℕ} 0 1 = cc in omega arith
   unrefused (Ended.Refused number′ row′) v number row e = v

@@ -100,11 +100,11 @@ module _ (terms : Terms) (k : List Item) (m : List ℕ) (l : ℕ) (p : List ℕ)
   module _ (channel : ℕ) (e : Expr) (row : ℕ) where
     -- from the two tests of an output
     looked : Bool → Bool → Attempt
-    looked deny room = outputAttempt deny room row (recorded channel e k (state (statement (output channel e row) ∷ k) m l p g))
+    looked deny room = outputAttempt deny room row (level l e) (recorded channel e k (state (statement (output channel e row) ∷ k) m l p g))
 
     pub attempt-denied :
         denies channel e l p ≡ true
-        → attempted terms (state (statement (output channel e row) ∷ k) m l p g) ≡ denied row
+        → attempted terms (state (statement (output channel e row) ∷ k) m l p g) ≡ denied row (level l e)
     unfolding attempt begin outputAttempt isDenied guarded looked
     attempt-denied deny = ap (λ (b : Bool). looked b (ltb (length (g .records)) (terms .room))) deny
 
@@ -128,9 +128,10 @@ module _ (terms : Terms) (b : ℕ) (σ : State) where
   unfolding run follow
   run-taken next e = ap (follow (run terms b) σ) e
 
-  pub run-stopped : (row : ℕ) → attempted terms σ ≡ denied row → run terms (suc b) σ ≡ outcome (Ended.Stopped row) σ
+  pub run-stopped :
+      (row because : ℕ) → attempted terms σ ≡ denied row because → run terms (suc b) σ ≡ outcome (Ended.Stopped row because) σ
   unfolding run follow
-  run-stopped row e = ap (follow (run terms b) σ) e
+  run-stopped row because e = ap (follow (run terms b) σ) e
 
   pub run-full : (row : ℕ) → attempted terms σ ≡ roomless row → run terms (suc b) σ ≡ outcome (Ended.NoRoom row) σ
   unfolding run follow
@@ -162,7 +163,7 @@ module _ (terms : Terms) (k : List Item) (m : List ℕ) (l : ℕ) (p : List ℕ)
       → reached (follow onward (state k m l p g) a) ≡ reached (follow onward (state k′ m l p g) a)
   unfolding follow
   follow-at onward k k′ finished = refl
-  follow-at onward k k′ (denied row) = refl
+  follow-at onward k k′ (denied row because) = refl
   follow-at onward k k′ (roomless row) = refl
   follow-at onward k k′ (taken next) = refl
 
@@ -226,8 +227,8 @@ module _ (terms : Terms) (k : List Item) (m : List ℕ) (l : ℕ) (p : List ℕ)
       pub run-denied :
           denies channel e l p ≡ true
           → final terms (suc budget) (state (statement (output channel e row) ∷ k) m l p g)
-          ≡ reached (outcome (Ended.Stopped row) (state k m l p g))
-      run-denied deny = ap reached (run-stopped terms budget _ row (attempt-denied terms k m l p g channel e row deny))
+          ≡ reached (outcome (Ended.Stopped row (level l e)) (state k m l p g))
+      run-denied deny = ap reached (run-stopped terms budget _ row _ (attempt-denied terms k m l p g channel e row deny))
 
       pub run-roomless :
           denies channel e l p ≡ false → ltb (length (g .records)) (terms .room) ≡ false

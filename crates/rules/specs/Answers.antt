@@ -10,6 +10,7 @@ use Rattle.rules.specs.declared.Answer.{Answer}
 use Rattle.rules.specs.declared.Checked.{Checked}
 use Rattle.rules.specs.declared.Advice.{Advice}
 use Rattle.rules.specs.Limits.{recordWords}
+use Rattle.rules.specs.Marks.{none}
 use Rattle.rules.specs.Rows.{rowsOf}
 use Rattle.rules.specs.Trees.{recipe}
 use Rattle.rules.specs.Judging.{orElse, judge, judgeTrace}
@@ -34,10 +35,18 @@ saidOfJudge (Judged.Refused number row) = refused number row
 -- 6.4: The place is the output's row for verdicts 1 and 3, and 0 for the others.
 abbrev pub saidOfRun : Ended → Said
 saidOfRun Ended.Done = verdict 0 0
-saidOfRun (Ended.Stopped row) = verdict 1 row
+saidOfRun (Ended.Stopped row because) = verdict 1 row
 saidOfRun Ended.Spent = verdict 2 0
 saidOfRun (Ended.NoRoom row) = verdict 3 row
 saidOfRun (Ended.Refused number row) = refused number row
+
+-- 6.10: .. they are answered for verdict 1, and the empty set for the others and for a refusal.
+abbrev pub becauseOf : Ended → ℕ
+becauseOf Ended.Done = none
+becauseOf (Ended.Stopped row because) = because
+becauseOf Ended.Spent = none
+becauseOf (Ended.NoRoom row) = none
+becauseOf (Ended.Refused number row) = none
 
 abbrev pub saidOfCheck : Checked → Said
 saidOfCheck Checked.Pass = pass
@@ -57,6 +66,7 @@ JudgeAnswers words judged = saidOfJudge judged ≡ judgement words
 -- added to the marks.
 pub record Whole : Type 0 where
   pub said : Said
+  pub because : ℕ
   pub steps : ℕ
   pub records : List Record
   pub memory : List ℕ
@@ -65,6 +75,7 @@ pub record Whole : Type 0 where
 abbrev pub reached : Outcome → Whole
 reached o = record {
   said = saidOfRun (o .ended);
+  because = becauseOf (o .ended);
   steps = o .state .log .steps;
   records = o .state .log .records;
   memory = o .state .memory;
@@ -102,6 +113,7 @@ unfoldable pub answered : Judged → Inputs → Whole
 answered Judged.Accepted i = final (termsOf (length (i .trace))) (i .budget) (started i)
 answered (Judged.Refused number row) i = record {
   said = refused number row;
+  because = none;
   steps = 0;
   records = [];
   memory = i .memory;
@@ -129,16 +141,31 @@ traceAfter records trace = traceWordsOf records ++ drop (length (traceWordsOf re
 -- What a run's answer tells, in the rules' numbers and values; its records are the first words of the trace.
 pub record Told : Type 0 where
   pub said : Said
+  pub because : ℕ
   pub steps : ℕ
   pub records : ℕ
   pub memory : List ℕ
   pub marks : ℕ
 
 unfoldable pub toldOf : Answer → Told
-toldOf a = record { said = saidOfRun (a .ended); steps = a .steps; records = a .records; memory = a .memory .words; marks = a .marks }
+toldOf a = record {
+  said = saidOfRun (a .ended);
+  because = becauseOf (a .ended);
+  steps = a .steps;
+  records = a .records;
+  memory = a .memory .words;
+  marks = a .marks;
+}
 
 unfoldable pub telling : Whole → Told
-telling w = record { said = w .said; steps = w .steps; records = length (w .records); memory = w .memory; marks = w .marks }
+telling w = record {
+  said = w .said;
+  because = w .because;
+  steps = w .steps;
+  records = length (w .records);
+  memory = w .memory;
+  marks = w .marks;
+}
 
 -- The answer tells this, and the records are written over a trace.
 pub record Tells (whole : Whole) (trace : List ℕ) (a : Answer) (after : List ℕ) : Type 0 where

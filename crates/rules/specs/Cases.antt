@@ -69,11 +69,11 @@ abbrev pub usual : List Quad → List ℕ → Given
 usual table memory = record { table = table; memory = memory; marks = usualMarks; budget = usualBudget; trace = usualTrace }
 
 -- An expected result without a record: the trace is then as given.
-unfoldable pub recordless : Given → Said → ℕ → List ℕ → ℕ → Said → ℕ → Case
-recordless g said steps memory marks advice finalMarks = record {
+unfoldable pub recordless : Given → Said → ℕ → ℕ → List ℕ → ℕ → Said → ℕ → Case
+recordless g said because steps memory marks advice finalMarks = record {
   given = g;
   expected = record {
-    whole = record { said = said; steps = steps; records = []; memory = memoryOf memory; marks = marks };
+    whole = record { said = said; because = because; steps = steps; records = []; memory = memoryOf memory; marks = marks };
     trace = g .trace;
     advised = record { said = advice; marks = finalMarks };
   };

@@ -1,5 +1,5 @@
 -- Runs that A to I do not cover, with everything that is expected of each: L to P, the whole case, a denied output with no
--- budget left, and runs that are refused.
+-- budget left, what a run is stopped because of, and runs that are refused.
 use Prim.Native.Nat.{ℕ}
 use mathlib.Core.Path.{_≡_}
 use mathlib.Core.List.{List, [], _∷_}
@@ -60,6 +60,18 @@ tableWhole = (9, 0, 0, 0) ∷ (5, 0, 0, 0) ∷ (9, 1, 0, 0) ∷ (5, 1, 2, 0) ∷
 abbrev tableDenied : List Quad
 tableDenied = (9, 0, 0, 0) ∷ (5, 0, 0, 0) ∷ []
 
+-- output settled v0 + (v1 + v2)
+abbrev tableSum : List Quad
+tableSum = (9, 0, 0, 0) ∷ (9, 1, 0, 0) ∷ (9, 2, 0, 0) ∷ (10, 0, 1, 2) ∷ (10, 0, 0, 3) ∷ (5, 0, 4, 0) ∷ []
+
+-- if v0 then output settled v1 else v2:=0
+abbrev tableInside : List Quad
+tableInside = (9, 0, 0, 0) ∷ (9, 1, 0, 0) ∷ (5, 0, 1, 0) ∷ (8, 0, 0, 0) ∷ (1, 2, 3, 0) ∷ (3, 0, 2, 4) ∷ []
+
+-- output provisional v0
+abbrev tableShown : List Quad
+tableShown = (9, 0, 0, 0) ∷ (5, 1, 0, 0) ∷ []
+
 -- v0:=0
 abbrev tableSettled : List Quad
 tableSettled = (8, 0, 0, 0) ∷ (1, 0, 0, 0) ∷ []
@@ -72,25 +84,25 @@ tableRefused = (0, 0, 0, 0) ∷ (8, 0, 0, 0) ∷ (1, 0, 1, 0) ∷ []
 abbrev one : List ℕ
 one = 1 ∷ []
 
--- L: verdict 1, 6 steps, marks 3
+-- L: verdict 1 because of v1, 6 steps, marks 3
 abbrev runL : Case
-runL = recordless (usual tableL one) (verdict 1 11) 6 one 3 (fail 11) 3
+runL = recordless (usual tableL one) (verdict 1 11) 2 6 one 3 (fail 11) 3
 
--- M: verdict 1, 4 steps, marks 3
+-- M: verdict 1 because of no variable, 4 steps, marks 3
 abbrev runM : Case
-runM = recordless (usual tableM one) (verdict 1 7) 4 one 3 (fail 7) 11
+runM = recordless (usual tableM one) (verdict 1 7) 0 4 one 3 (fail 7) 11
 
--- N: verdict 1, 1 step
+-- N: verdict 1 because of no variable, 1 step
 abbrev runN : Case
-runN = recordless (usual tableN one) (verdict 1 2) 1 one 1 (fail 2) 1
+runN = recordless (usual tableN one) (verdict 1 2) 0 1 one 1 (fail 2) 1
 
 -- O: verdict 0, 3 steps, marks 7
 abbrev runO : Case
-runO = recordless (usual tableO one) (verdict 0 0) 3 one 7 pass 7
+runO = recordless (usual tableO one) (verdict 0 0) 0 3 one 7 pass 7
 
 -- P: the check fails, marks 3; its run does not enter the loop
 abbrev runP : Case
-runP = recordless (usual tableP one) (verdict 0 0) 2 one 1 (fail 2) 3
+runP = recordless (usual tableP one) (verdict 0 0) 0 2 one 1 (fail 2) 3
 
 abbrev runWhole : Case
 runWhole = record {
@@ -98,6 +110,7 @@ runWhole = record {
   expected = record {
     whole = record {
       said = verdict 0 0;
+      because = 0;
       steps = 2;
       records = record { channel = 0; value = 7 } ∷ record { channel = 1; value = 9 } ∷ [];
       memory = memoryOf (7 ∷ 9 ∷ []);
@@ -113,20 +126,43 @@ abbrev runDenied : Case
 runDenied =
     recordless
     (record { table = tableDenied; memory = one; marks = usualMarks; budget = 0; trace = usualTrace })
-    (verdict 2 0) 0 one 1 (fail 1) 1
+    (verdict 2 0) 0 0 one 1 (fail 1) 1
+
+-- v1 is read and not marked, v3 is marked and not read
+-- 12.14: `output settled v0 + (v1 + v2)` is stopped because of v0 and v2 where v0, v2 and v3 are marked; ..
+abbrev runSum : Case
+runSum =
+    recordless
+    (record { table = tableSum; memory = one; marks = 13; budget = usualBudget; trace = usualTrace })
+    (verdict 1 5) 5 0 one 13 (fail 5) 13
+
+-- the test read v0, and v2 is in the pile
+-- 12.14: .. `if v0 then output settled v1 else v2:=0` with v0 = 1 because of v1 alone where v0 and v1 are; ..
+abbrev runInside : Case
+runInside =
+    recordless
+    (record { table = tableInside; memory = one; marks = 3; budget = usualBudget; trace = usualTrace })
+    (verdict 1 2) 2 1 one 3 (fail 2) 7
+
+-- 12.14: .. `output provisional v0` with no room ends because of no variable.
+abbrev runShown : Case
+runShown =
+    recordless
+    (record { table = tableShown; memory = one; marks = usualMarks; budget = usualBudget; trace = [] })
+    (verdict 3 1) 0 0 one 1 pass 1
 
 -- 4.8: A refused run answers the refusal's number and row in place of a verdict and a place, with 0 steps and 0 records,
 -- and memory, mark set and trace are as they were given.
 -- 4.9: .. a refused check answers the mark set that it was given.
 abbrev runRefused : Case
-runRefused = recordless (usual tableRefused one) (refused 4 0) 0 one 1 (refused 4 0) 1
+runRefused = recordless (usual tableRefused one) (refused 4 0) 0 0 one 1 (refused 4 0) 1
 
 -- one trace word too many: 6 for the run, nothing for the level check
 abbrev runOversized : Case
 runOversized =
     recordless
     (record { table = tableSettled; memory = one; marks = usualMarks; budget = usualBudget; trace = replicate 16385 0 })
-    (refused 6 0) 0 one 1 pass 0
+    (refused 6 0) 0 0 one 1 pass 0
 
 -- 4 before 6
 -- 4.7: Of the refusals 1 to 6 that apply anywhere, the one with the lowest number is given, ..
@@ -134,10 +170,10 @@ abbrev runBoth : Case
 runBoth =
     recordless
     (record { table = tableRefused; memory = one; marks = usualMarks; budget = usualBudget; trace = replicate 16385 0 })
-    (refused 4 0) 0 one 1 (refused 4 0) 1
+    (refused 4 0) 0 0 one 1 (refused 4 0) 1
 
 unfoldable pub further : List Case
-further = runL ∷ runM ∷ runN ∷ runO ∷ runP ∷ runWhole ∷ runDenied ∷ runRefused ∷ runOversized ∷ runBoth ∷ []
+further = runL ∷ runM ∷ runN ∷ runO ∷ runP ∷ runWhole ∷ runDenied ∷ runSum ∷ runInside ∷ runShown ∷ runRefused ∷ runOversized ∷ runBoth ∷ []
 
 -- The claim: every one of these runs comes out whole as expected.
 abbrev pub Further : Type 0
@@ -158,6 +194,7 @@ RoomlessGoesOn =
     × (reached (run (termsOf 4) 10 (run (termsOf 0) 10 twoOutputs .state))
     ≡ record {
       said = verdict 0 0;
+      because = 0;
       steps = 2;
       records = record { channel = 0; value = 5 } ∷ record { channel = 0; value = 6 } ∷ [];
       memory = memoryOf [];

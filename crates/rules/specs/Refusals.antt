@@ -143,5 +143,5 @@ longest = recipe (rowsOf (wordsOf (long 255)))
 abbrev pub Longest : Type 0
 Longest =
     (reached (run (termsOf 0) 300 (start longest (memoryOf (5 ∷ [])) 1))
-    ≡ record { said = verdict 0 0; steps = 256; records = []; memory = memoryOf []; marks = 0 })
+    ≡ record { said = verdict 0 0; because = 0; steps = 256; records = []; memory = memoryOf []; marks = 0 })
     × (walk longest false 1 ≡ record { marks = 0; failing = [] })

@@ -151,11 +151,11 @@ recorded channel e rest σ = record {
   log = noted (record { channel = channel; value = value (σ .memory) e }) (σ .log);
 }
 
--- What comes of going on with a state: nothing is pending; the output at this row is denied, or without room; or the
--- step is taken.
+-- What comes of going on with a state: nothing is pending; the output at this row is denied, because of these variables, or
+-- without room; or the step is taken.
 pub data Attempt : Type 0 where
   finished : Attempt
-  denied : ℕ → Attempt
+  denied : ℕ → ℕ → Attempt
   roomless : ℕ → Attempt
   taken : State → Attempt
 
@@ -166,17 +166,18 @@ denies channel e marks pile = eqb channel 0 && (provisional (level marks e) || c
 unfoldable pub isDenied : ℕ → Expr → State → Bool
 isDenied channel e σ = denies channel e (σ .marks) (σ .pile)
 
--- whether the output is denied, and whether there is room for one record more
+-- whether the output is denied, and whether there is room for one record more; the output's row, and its expression's level
 -- 5.12: Output writes a record, unless it is denied.
 -- 6.2: .. the step is an output that is denied, and the run is stopped; it is an output and the trace has no room for a
 -- further record, and the run ends without room; else the step is taken, ..
-unfoldable pub outputAttempt : Bool → Bool → ℕ → State → Attempt
-outputAttempt true room row next = denied row
-outputAttempt false false row next = roomless row
-outputAttempt false true row next = taken next
+unfoldable pub outputAttempt : Bool → Bool → ℕ → ℕ → State → Attempt
+outputAttempt true room row spoiled next = denied row spoiled
+outputAttempt false false row spoiled next = roomless row
+outputAttempt false true row spoiled next = taken next
 
 -- The next step where a statement is next.
 -- 5.5: .. a sequence is none, it only puts its two statements in its place.
+-- 6.10: A run is stopped because of the variables in the level of the denied output's expression, ..
 unfoldable pub begin : Terms → Stmt → List Item → State → Attempt
 begin terms skip rest σ = taken (skipped rest σ)
 begin terms (assign v e) rest σ = taken (assigned v e rest σ)
@@ -184,7 +185,7 @@ begin terms (sequence s t) rest σ = begin terms s (statement t ∷ rest) σ
 begin terms (if e s t) rest σ = taken (branched (holds (σ .memory) e) e s t rest σ)
 begin terms (while e s) rest σ = taken (turned (holds (σ .memory) e) e s rest σ)
 begin terms (output channel e row) rest σ =
-    outputAttempt (isDenied channel e σ) (ltb (length (σ .log .records)) (terms .room)) row (recorded channel e rest σ)
+    outputAttempt (isDenied channel e σ) (ltb (length (σ .log .records)) (terms .room)) row (level (σ .marks) e) (recorded channel e rest σ)
 
 unfoldable pub attempt : Terms → List Item → State → Attempt
 attempt terms [] σ = finished
@@ -212,7 +213,7 @@ atBudget (item ∷ rest) = Ended.Spent
 -- 6.2: .. else the step is taken, and counted.
 unfoldable pub follow : (State → Outcome) → State → Attempt → Outcome
 follow onward σ finished = outcome Ended.Done σ
-follow onward σ (denied row) = outcome (Ended.Stopped row) σ
+follow onward σ (denied row because) = outcome (Ended.Stopped row because) σ
 follow onward σ (roomless row) = outcome (Ended.NoRoom row) σ
 follow onward σ (taken next) = onward next
 

@@ -90,11 +90,11 @@ pub enum Judged {
     Refused { number: u32, row: u32 },
 }
 
-// How a run ended: done, stopped by the monitor at an output's row, with its budget used up, or at an
-// output's row without room; or refused.
+// How a run ended: done, stopped by the monitor at an output's row because of some variables, with its budget used up, or at
+// an output's row without room; or refused.
 pub enum Ended {
     Done,
-    Stopped(u32),
+    Stopped { row: u32, because: Marks },
     Spent,
     NoRoom(u32),
     Refused { number: u32, row: u32 },

@@ -1,6 +1,7 @@
 -- The demands over calls, from the demands over the rules' answers: what is read off a call is the rules' answer.
 use Prim.Native.Nat.{ℕ, suc, _≤_}
-use mathlib.Core.Bool.{false}
+use native.Mathlib.Omega.{arith}
+use mathlib.Core.Bool.{true, false}
 use mathlib.Core.List.{List, [], _∷_, _++_}
 use mathlib.Core.Path.{_≡_, refl, sym, ap, ap₂, _∙_, subst, subst₂}
 use lib.ListN.{length}
@@ -11,19 +12,21 @@ use Rattle.rules.specs.declared.Checked.{Checked}
 use Rattle.rules.specs.declared.Advice.{Advice}
 use Rattle.rules.specs.Rows.{rowsOf}
 use Rattle.rules.specs.Trees.{recipe}
-use Rattle.rules.specs.Running.{Record}
+use Rattle.rules.specs.Marks.{_⊆_, provisional}
+use Rattle.rules.specs.Running.{Record, State, Terms, context, run}
 use Rattle.rules.specs.LevelRules.{failing}
 use Rattle.rules.specs.LevelCheck.{checkedOf}
-use Rattle.rules.specs.Answers.{refused, saidOfRun, saidOfCheck, Whole, Inputs, termsOf, answer, traceWordsOf, JudgeAnswers, RunAnswers, Advised, advisedOf, CheckAnswers}
+use Rattle.rules.specs.Answers.{refused, saidOfRun, becauseOf, saidOfCheck, Whole, Inputs, termsOf, started, answer, traceWordsOf, JudgeAnswers, RunAnswers, Advised, advisedOf, CheckAnswers}
 use Rattle.rules.proofs.RunInvariants.{run-unrefused}
-use Rattle.rules.proofs.AnswerLaws.{startOf, answer-refused, answer-oversized, answer-ran, shown-law, told-said, told-steps, told-records, told-memory, told-marks, trace-after-law, trace-words-cons, advice-refused, judged-unique, ended-unique, checked-unique, said-judged, judged-as}
+use Rattle.rules.proofs.AnswerLaws.{startOf, start-law, Call, ran, away, call, answer-refused, answer-oversized, answer-ran, shown-law, told-said, told-because, told-steps, told-records, told-memory, told-marks, trace-after-law, trace-words-cons, advice-refused, judged-unique, ended-unique, checked-unique, said-judged, judged-as}
 use Rattle.safety.specs.Demands.{Names, SameRun, unwatched, EitherBegins, SameToTheStations}
-use Rattle.safety.specs.Calls.{recordsIn, wholeOf, CallIsTheAnswer, CallJudges, Returned, CallEnds, CallIsRefusedAsJudged, CheckIsLeast, CheckIsRefusedAsJudged, CallIsUnwatched, CallsShowTheSame, CallIsNeverStopped}
+use Rattle.safety.specs.Calls.{recordsIn, wholeOf, CallIsTheAnswer, CallJudges, Returned, CallEnds, CallIsRefusedAsJudged, CheckIsLeast, CheckIsRefusedAsJudged, CallIsUnwatched, CallsShowTheSame, CallIsNeverStopped, StopExplained, CallIsExplained}
 use Rattle.safety.proofs.Demand1.{ends-within-budget, refusals-touch-nothing}
 use Rattle.safety.proofs.Demand3.{one-begins-the-other, both-done-are-the-same}
 use Rattle.safety.proofs.Transparent.{done-is-unwatched}
 use Rattle.safety.proofs.Least.{level-check-is-least, lowest-is-named}
 use Rattle.safety.proofs.Permissive.{passed-is-never-stopped}
+use Rattle.safety.proofs.Explained.{stops-are-explained}
 
 -- ---- what a caller reads off
 
@@ -44,18 +47,20 @@ module _ (i : Inputs) (a : Answer) (after : List ℕ) (called : RunAnswers i a a
   whole : wholeOf a after ≡ answer i
   whole =
       let said = told-said a (answer i) (called .told) in
+      let because = told-because a (answer i) (called .told) in
       let steps = told-steps a (answer i) (called .told) in
       let memory = told-memory a (answer i) (called .told) in
       let marks = told-marks a (answer i) (called .told) in
-      λ x. record { said = said x; steps = steps x; records = found x; memory = memory x; marks = marks x }
+      λ x. record { said = said x; because = because x; steps = steps x; records = found x; memory = memory x; marks = marks x }
 
   -- how the call ended is what the answer says, and the other way round
   answer-said : (ended : Ended) → a .ended ≡ ended → answer i .said ≡ saidOfRun ended
   answer-said ended e = sym (told-said a (answer i) (called .told)) ∙ ap saidOfRun e
 
-  ended-as : (ended : Ended) (w : Whole) → answer i ≡ w → w .said ≡ saidOfRun ended → a .ended ≡ ended
-  ended-as ended w e said =
+  ended-as : (ended : Ended) (w : Whole) → answer i ≡ w → w .said ≡ saidOfRun ended → w .because ≡ becauseOf ended → a .ended ≡ ended
+  ended-as ended w e said because =
       ended-unique (a .ended) ended (told-said a (answer i) (called .told) ∙ ap (λ (x : Whole). x .said) e ∙ said)
+      (told-because a (answer i) (called .told) ∙ ap (λ (x : Whole). x .because) e ∙ because)
 
 pub call-is-the-answer : CallIsTheAnswer
 call-is-the-answer = whole
@@ -85,8 +90,8 @@ call-ends i a after called = (
 pub call-is-refused-as-judged : CallIsRefusedAsJudged
 call-is-refused-as-judged i judged a after said called = record {
   bad-table = λ number row e.
-      ended-as i a after called (Ended.Refused number row) _ (answer-refused i number row (judged-as (i .words) said e)) refl;
-  oversized = λ e over. ended-as i a after called (Ended.Refused 6 0) _ (answer-oversized i (judged-as (i .words) said e) over) refl;
+      ended-as i a after called (Ended.Refused number row) _ (answer-refused i number row (judged-as (i .words) said e)) refl refl;
+  oversized = λ e over. ended-as i a after called (Ended.Refused 6 0) _ (answer-oversized i (judged-as (i .words) said e) over) refl refl;
   admitted = λ e fits number row f.
       run-unrefused (termsOf (length (i .trace))) (i .budget) (startOf (i .words) (i .memory) (i .marks)) number row
       (sym (ap (λ (x : Whole). x .said) (answer-ran i (judged-as (i .words) said e) fits ∙ shown-law i)) ∙ answer-said i a after called (Ended.Refused number row) f);
@@ -144,6 +149,42 @@ calls-show-the-same i j two a b after after′ called called′ = (
 )
 
 pub call-is-never-stopped : CallIsNeverStopped
-call-is-never-stopped i check a after row checks passed called stopped =
+call-is-never-stopped i check a after row because checks passed called stopped =
     passed-is-never-stopped i row (sym (ap (λ (x : Advised). x .said) checks) ∙ ap saidOfCheck passed)
-    (answer-said i a after called (Ended.Stopped row) stopped)
+    (answer-said i a after called (Ended.Stopped row because) stopped)
+
+-- ---- What a run is stopped because of
+
+pub call-is-explained : CallIsExplained
+call-is-explained i a after row because called stopped = by (call i)
+  where
+    terms : Terms
+    terms = termsOf (length (i .trace))
+
+    from : State
+    from = startOf (i .words) (i .memory) (i .marks)
+
+    by : Call i → StopExplained i a because
+    by (ran accepted shown) =
+        let stops : run terms (i .budget) from .ended ≡ Ended.Stopped row because =
+        ended-unique (run terms (i .budget) from .ended) (Ended.Stopped row because)
+        (sym (ap (λ (x : Whole). x .said) shown) ∙ answer-said i a after called (Ended.Stopped row because) stopped)
+        (sym (ap (λ (x : Whole). x .because) shown) ∙ sym (told-because a (answer i) (called .told)) ∙ ap becauseOf stopped)
+        in
+        let explained = stops-are-explained terms (i .budget) from row because stops in
+        record {
+          all-marked =
+              subst (λ (marks : ℕ). because ⊆ marks) (sym (told-marks a (answer i) (called .told) ∙ ap (λ (x : Whole). x .marks) shown))
+              (explained .all-marked);
+          some =
+              subst (λ (σ : State). context (run terms (i .budget) σ .state .pile) ≡ false → provisional because ≡ true)
+              (sym (start-law (i .words) (i .memory) (i .marks)))
+              (explained .some);
+        }
+    by (away number at shown) =
+        absurd
+        (let clash : refused number at ≡ saidOfRun (Ended.Stopped row because) =
+        sym (ap (λ (x : Whole). x .said) shown) ∙ answer-said i a after called (Ended.Stopped row because) stopped
+        in
+        let z : _≡_ {A = ℕ} 0 1 = cc in
+        omega arith)

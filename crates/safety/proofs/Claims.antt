@@ -5,9 +5,10 @@ use Rattle.safety.proofs.Least.{level-check-is-least, lowest-is-named}
 use Rattle.safety.proofs.Transparent.{done-is-unwatched}
 use Rattle.safety.proofs.Demand3.{one-begins-the-other, both-done-are-the-same}
 use Rattle.safety.proofs.Permissive.{passed-is-never-stopped}
+use Rattle.safety.proofs.Explained.{stops-are-explained}
 use Rattle.safety.proofs.Bounds.{runs-stay-bounded}
-use Rattle.safety.proofs.Examples.{two-memories-show, stopped-and-done, refused, calls-show, calls-stop, calls-refuse}
-use Rattle.safety.proofs.Calls.{call-is-the-answer, call-judges, call-is-refused-as-judged, call-ends, call-is-unwatched, calls-show-the-same, check-is-least, check-is-refused-as-judged, call-is-never-stopped}
+use Rattle.safety.proofs.Examples.{two-memories-show, stopped-and-done, stops-show, refused, calls-show, calls-stop, calls-refuse}
+use Rattle.safety.proofs.Calls.{call-is-the-answer, call-judges, call-is-refused-as-judged, call-ends, call-is-unwatched, calls-show-the-same, check-is-least, check-is-refused-as-judged, call-is-never-stopped, call-is-explained}
 
 pub claims : Claims
 claims = record {
@@ -20,9 +21,11 @@ claims = record {
   one-begins-the-other = one-begins-the-other;
   both-done-are-the-same = both-done-are-the-same;
   passed-is-never-stopped = passed-is-never-stopped;
+  stops-are-explained = stops-are-explained;
   runs-stay-bounded = runs-stay-bounded;
   two-memories-show = two-memories-show;
   stopped-and-done = stopped-and-done;
+  stops-show = stops-show;
   refused = refused;
   calls-show = calls-show;
   calls-stop = calls-stop;
@@ -36,4 +39,5 @@ claims = record {
   check-is-least = check-is-least;
   check-is-refused-as-judged = check-is-refused-as-judged;
   call-is-never-stopped = call-is-never-stopped;
+  call-is-explained = call-is-explained;
 }

@@ -13,7 +13,7 @@ use Rattle.rules.proofs.AnswerLaws.{telling-law}
 use Rattle.rules.proofs.Evaluation.{rules}
 use Rattle.safety.specs.Stations.{Agree}
 use Rattle.safety.specs.Demands.{TwoMemories}
-use Rattle.safety.specs.Examples.{given, shown, leaking, TwoMemoriesShow, StoppedAndDone, Refused, CallsShow, CallsStop, CallsRefuse}
+use Rattle.safety.specs.Examples.{given, shown, leaking, TwoMemoriesShow, StoppedAndDone, StopsShow, Refused, CallsShow, CallsStop, CallsRefuse}
 
 -- two memories that differ in v0 alone, where v0 alone is marked
 differ-in-v0 : (a b : ℕ) (m : List ℕ) (v : ℕ) → v < width → has 1 v ≡ false → getD (a ∷ m) v 0 ≡ getD (b ∷ m) v 0
@@ -43,18 +43,22 @@ pub stopped-and-done : StoppedAndDone
 unfolding rules
 stopped-and-done = (apart leaking (1 ∷ []) (0 ∷ []) refl refl refl (differ-in-v0 1 0 (replicate 31 0)), refl, refl)
 
+pub stops-show : StopsShow
+unfolding rules
+stops-show = (record { told = telling-law _ _ refl refl refl refl refl refl; trace-after = refl }, refl, refl, refl)
+
 pub refused : Refused
 unfolding rules
 refused = refl
 
 pub calls-show : CallsShow
 unfolding rules
-calls-show = (refl, refl, record { told = telling-law _ _ refl refl refl refl refl; trace-after = refl })
+calls-show = (refl, refl, record { told = telling-law _ _ refl refl refl refl refl refl; trace-after = refl })
 
 pub calls-stop : CallsStop
 unfolding rules
-calls-stop = (refl, record { told = telling-law _ _ refl refl refl refl refl; trace-after = refl })
+calls-stop = (refl, record { told = telling-law _ _ refl refl refl refl refl refl; trace-after = refl })
 
 pub calls-refuse : CallsRefuse
 unfolding rules
-calls-refuse = (refl, refl, record { told = telling-law _ _ refl refl refl refl refl; trace-after = refl })
+calls-refuse = (refl, refl, record { told = telling-law _ _ refl refl refl refl refl refl; trace-after = refl })

@@ -6,6 +6,7 @@ pub mod Demand3
 pub mod Transparent
 pub mod Least
 pub mod Permissive
+pub mod Explained
 pub mod Bounds
 pub mod Examples
 pub mod Calls

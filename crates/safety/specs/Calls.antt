@@ -1,7 +1,7 @@
 -- The demands for whoever calls the judge, the run or the level check: over the answers and traces that their contracts allow.
 -- Each hypothesis about a call is the contract of the function itself.
 use Prim.Native.Nat.{ℕ, zero, suc, _≤_, _<_}
-use mathlib.Core.Bool.{false}
+use mathlib.Core.Bool.{true, false}
 use mathlib.Core.List.{List, [], _∷_}
 use mathlib.Core.Logic.{_↔_}
 use mathlib.Core.Path.{_≡_}
@@ -15,9 +15,10 @@ use Rattle.rules.specs.Limits.{mostTraceWords}
 use Rattle.rules.specs.Rows.{rowsOf}
 use Rattle.rules.specs.Trees.{recipe}
 use Rattle.rules.specs.Judging.{judge}
-use Rattle.rules.specs.Running.{Record}
+use Rattle.rules.specs.Marks.{_⊆_, provisional}
+use Rattle.rules.specs.Running.{Record, context, run}
 use Rattle.rules.specs.LevelRules.{Choice, result, failing}
-use Rattle.rules.specs.Answers.{saidOfRun, Whole, Inputs, answer, JudgeAnswers, RunAnswers, CheckAnswers}
+use Rattle.rules.specs.Answers.{saidOfRun, becauseOf, Whole, Inputs, termsOf, started, answer, JudgeAnswers, RunAnswers, CheckAnswers}
 use Rattle.safety.specs.Demands.{Least, Names, SameRun, unwatched, TwoMemories, EitherBegins, SameToTheStations}
 
 -- ---- what a caller reads off
@@ -33,6 +34,7 @@ recordsIn (c ∷ v ∷ trace) (suc n) = record { channel = c; value = v } ∷ re
 abbrev pub wholeOf : Answer → List ℕ → Whole
 wholeOf a after = record {
   said = saidOfRun (a .ended);
+  because = becauseOf (a .ended);
   steps = a .steps;
   records = recordsIn after (a .records);
   memory = a .memory .words;
@@ -116,5 +118,21 @@ CallsShowTheSame =
 -- A call of the run is never stopped where a call of the level check, with the same table and mark set, answered pass.
 abbrev pub CallIsNeverStopped : Type 0
 CallIsNeverStopped =
-    (i : Inputs) (check : Advice) (a : Answer) (after : List ℕ) (row : ℕ) → CheckAnswers (i .words) (i .marks) check
-    → check .checked ≡ Checked.Pass → RunAnswers i a after → a .ended ≡ Ended.Stopped row → ⊥
+    (i : Inputs) (check : Advice) (a : Answer) (after : List ℕ) (row because : ℕ) → CheckAnswers (i .words) (i .marks) check
+    → check .checked ≡ Checked.Pass → RunAnswers i a after → a .ended ≡ Ended.Stopped row because → ⊥
+
+-- ---- What a run is stopped because of, for the desk
+
+-- Every variable that a call was stopped because of is marked in the marks that it answers; and there is one, unless the context was
+-- provisional in the state in which it was stopped.
+-- 10.12: A run that is stopped in a settled context is stopped because of at least one variable, and every variable that a
+-- run is stopped because of is marked in the marks that it answers.
+pub record StopExplained (i : Inputs) (a : Answer) (because : ℕ) : Type 0 where
+  pub all-marked : because ⊆ a .marks
+  pub some :
+      context (run (termsOf (length (i .trace))) (i .budget) (started i) .state .pile) ≡ false → provisional because ≡ true
+
+abbrev pub CallIsExplained : Type 0
+CallIsExplained =
+    (i : Inputs) (a : Answer) (after : List ℕ) (row because : ℕ) → RunAnswers i a after → a .ended ≡ Ended.Stopped row because
+    → StopExplained i a because

@@ -14,8 +14,8 @@ use Rattle.rules.specs.Bounds.{mostPending}
 use Rattle.rules.specs.Rows.{rowsOf}
 use Rattle.rules.specs.Trees.{Stmt, recipe}
 use Rattle.rules.specs.Judging.{judge}
-use Rattle.rules.specs.Marks.{has, _⊆_}
-use Rattle.rules.specs.Running.{Record, State, Terms, run}
+use Rattle.rules.specs.Marks.{has, _⊆_, provisional}
+use Rattle.rules.specs.Running.{Record, State, Terms, context, run}
 use Rattle.rules.specs.Unwatched.{PlainOutcome, plainStart, plainRun}
 use Rattle.rules.specs.LevelRules.{Choice, Solves, Within, result, failing}
 use Rattle.rules.specs.LevelCheck.{checkedOf}
@@ -128,6 +128,20 @@ BothDoneAreTheSame =
 abbrev pub PassedIsNeverStopped : Type 0
 PassedIsNeverStopped =
     (i : Inputs) (row : ℕ) → advice (i .words) (i .marks) .said ≡ pass → answer i .said ≡ verdict 1 row → ⊥
+
+-- ---- What a run is stopped because of, for the desk
+
+-- these variables, in this state
+-- 10.12: A run that is stopped in a settled context is stopped because of at least one variable, and every variable that a
+-- run is stopped because of is marked in the marks that it answers.
+pub record Explains (because : ℕ) (σ : State) : Type 0 where
+  pub some : context (σ .pile) ≡ false → provisional because ≡ true
+  pub all-marked : because ⊆ σ .marks
+
+abbrev pub StopsAreExplained : Type 0
+StopsAreExplained =
+    (terms : Terms) (budget : ℕ) (σ : State) (row because : ℕ) → run terms budget σ .ended ≡ Ended.Stopped row because
+    → Explains because (run terms budget σ .state)
 
 -- ---- What the code's arrays need: facts of every state that a run of an accepted table reaches.
 pub record Bounded (σ : State) : Type 0 where

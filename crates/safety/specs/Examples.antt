@@ -1,12 +1,14 @@
 -- An example for each hypothesis of the demands, so that none of them speaks of nothing.
 use Prim.Native.Nat.{ℕ}
+use mathlib.Core.Bool.{Bool, true, false}
 use mathlib.Core.List.{List, [], _∷_}
 use mathlib.Core.Path.{_≡_}
-use lib.ListN.{drop}
+use lib.ListN.{length, drop}
 use Rattle.rules.specs.declared.Judged.{Judged}
 use Rattle.rules.specs.declared.Ended.{Ended}
 use Rattle.rules.specs.declared.Checked.{Checked}
-use Rattle.rules.specs.Answers.{verdict, refused, pass, Inputs, answer, JudgeAnswers, RunAnswers, advice, CheckAnswers}
+use Rattle.rules.specs.Running.{context, run}
+use Rattle.rules.specs.Answers.{verdict, refused, pass, Inputs, termsOf, started, answer, JudgeAnswers, RunAnswers, advice, CheckAnswers}
 use Rattle.rules.specs.Cases.{Quad, wordsOf, memoryOf, inputsOf, usual, usualMarks, usualTrace}
 use Rattle.safety.specs.Demands.{TwoMemories, seen}
 
@@ -44,6 +46,24 @@ StoppedAndDone =
     × (answer (given leaking (1 ∷ [])) .said ≡ verdict 1 2)
     × (answer (given leaking (0 ∷ [])) .said ≡ verdict 0 0)
 
+-- output settled v0
+abbrev pub spoiled : List Quad
+spoiled = (9, 0, 0, 0) ∷ (5, 0, 0, 0) ∷ []
+
+-- whether the context is provisional in the state that the run reaches
+abbrev reachedContext : Inputs → Bool
+reachedContext i = context (run (termsOf (length (i .trace))) (i .budget) (started i) .state .pile)
+
+-- Calls that are stopped because of v0 in a settled context, and because of no variable in a provisional one.
+abbrev pub StopsShow : Type 0
+StopsShow =
+    RunAnswers (given spoiled [])
+    (record { ended = Ended.Stopped 1 1; steps = 0; records = 0; memory = record { words = memoryOf [] }; marks = 1 })
+    usualTrace
+    × (reachedContext (given spoiled []) ≡ false)
+    × (answer (given leaking (1 ∷ [])) .because ≡ 0)
+    × (reachedContext (given leaking (1 ∷ [])) ≡ true)
+
 -- a constant alone: its last row is an expression
 abbrev pub bad : List Quad
 bad = (8, 1, 0, 0) ∷ []
@@ -66,7 +86,7 @@ abbrev pub CallsStop : Type 0
 CallsStop =
     CheckAnswers (wordsOf leaking) usualMarks (record { checked = Checked.Fail 2; marks = 1 })
     × RunAnswers (given leaking (1 ∷ []))
-    (record { ended = Ended.Stopped 2; steps = 1; records = 0; memory = record { words = memoryOf (1 ∷ []) }; marks = 1 })
+    (record { ended = Ended.Stopped 2 0; steps = 1; records = 0; memory = record { words = memoryOf (1 ∷ []) }; marks = 1 })
     usualTrace
 
 -- and of one that is refused.

@@ -4,7 +4,7 @@ use native.Mathlib.Omega.{arith}
 use mathlib.Core.Bool.{Bool, true, false, cond, not, _||_, _&&_}
 use mathlib.Core.List.{List, [], _∷_}
 use mathlib.Core.Logic.{_≢_}
-use mathlib.Core.Path.{_≡_, refl, sym, ap, _∙_, subst, subst₂}
+use mathlib.Core.Path.{_≡_, refl, sym, ap, ap₂, _∙_, subst, subst₂}
 use lib.Dec.{eqb}
 use borrow.Author.Tests.{eqb-true, eqb-false}
 use types.Run.{OneOf, miss}
@@ -167,22 +167,22 @@ module _ (rows : List Row) (w e p t : List ℕ) (h : Held) (at : Holds rows (arr
           → (eqb (row .p) 0 && (provisional (level (h .marks) (exprAt rows (row .q))) || context (setsOf p (h .pile)))) ≡ b
       deny b d = ap (λ (c : Bool). eqb (row .p) 0 && (provisional (level (h .marks) (exprAt rows (row .q))) || c)) (context-law p (h .pile)) ∙ d
 
-      -- the row is named as the turn names it, and no array has changed
+      -- the turn says what the rules say, and no array has changed
       left :
-          (row′ : ℕ) → row′ ≡ i → t′ ≡ t → (f : ℕ → Attempt) → Says rows (arrays w e p t) h (λ steps. f i)
-          → (_≡_ {A = Arrays} (arrays w e p t′) (arrays w e p t)) × Says rows (arrays w e p t) h (λ steps. f row′)
-      left row′ er et f x = (ap (arrays w e p) et, λ steps. x steps ∙ ap f (sym er))
+          {said turned : Attempt} → turned ≡ said → t′ ≡ t → Says rows (arrays w e p t) h (λ steps. said)
+          → (_≡_ {A = Arrays} (arrays w e p t′) (arrays w e p t)) × Says rows (arrays w e p t) h (λ steps. turned)
+      left same et x = (ap (arrays w e p) et, λ steps. x steps ∙ sym same)
 
       by : (turn : Turn) → PutOut i (row .p) (exprAt rows (row .q)) w t h t′ turn → Applied rows (arrays w e p t) h (arrays w e p t′) turn
       by (Went h′) o =
           subst (λ (y : List ℕ). Goes rows (arrays w e p t) h (arrays w e p y) h′) (sym (o .2))
           (subst (Goes rows (arrays w e p t) h _) (sym (o .3))
           (record-law rows w e p t h at n top (row .p) (exprAt rows (row .q)) i some stands (deny false (o .0)) (o .1)))
-      by (Stopped row′) o =
-          left row′ (o .0) (o .2) denied
+      by (Stopped row′ because) o =
+          left (ap₂ denied (o .0) (o .2)) (o .3)
           (denied-law rows w e p t h at n top (row .p) (exprAt rows (row .q)) i some stands (deny true (o .1)))
       by (NoRoom row′) o =
-          left row′ (o .0) (o .3) roomless
+          left (ap roomless (o .0)) (o .3)
           (roomless-law rows w e p t h at n top (row .p) (exprAt rows (row .q)) i some stands (deny false (o .1)) (o .2))
 
 -- ---- the step as a whole
@@ -250,7 +250,7 @@ module _ (rows : List Row) (w e p t : List ℕ) (h : Held) (at : Holds rows (arr
         (turn : Turn) → OneOf (0 ∷ []) (tagOf turn-type.the-type turn) → (a′ : Arrays) → Applied rows (arrays w e₁ p t) h₁ a′ turn
         → Turned rows (arrays w e p t) h a′ turn
     went-apart (Went h′) among a′ x = record { step = says-apart _ (x .step); holds = x .holds; kept = x .kept; more = x .more }
-    went-apart (Stopped row) among a′ x = absurd (miss (0 ∷ []) 1 tt among)
+    went-apart (Stopped row because) among a′ x = absurd (miss (0 ∷ []) 1 tt among)
     went-apart (NoRoom row) among a′ x = absurd (miss (0 ∷ []) 2 tt among)
 
     -- where the step was not taken, the entry that was taken apart is stored again
@@ -303,5 +303,5 @@ module _ (rows : List Row) (w e p t : List ℕ) (h : Held) (at : Holds rows (arr
           (turn : Turn) → OneOf (1 ∷ 2 ∷ []) (tagOf turn-type.the-type turn) → (a′ : Arrays) → Applied rows (arrays w e₁ p t) h₁ a′ turn
           → Turned rows (arrays w e p t) h (arrays (a′ .words) (set (a′ .entries) (h .pending - 1) entry) (a′ .pile) (a′ .trace)) turn
       unwent-apart (Went h′) among a′ x = absurd (miss (1 ∷ 2 ∷ []) 0 tt among)
-      unwent-apart (Stopped row) among a′ x = stays-apart a′ (x .0) (denied row) (x .1)
+      unwent-apart (Stopped row because) among a′ x = stays-apart a′ (x .0) (denied row because) (x .1)
       unwent-apart (NoRoom row) among a′ x = stays-apart a′ (x .0) (roomless row) (x .1)

@@ -2,7 +2,7 @@
 use Prim.Native.Nat.{ℕ, _+_, _*_, _≤_}
 use native.Mathlib.Omega.{arith}
 use mathlib.Core.List.{List}
-use mathlib.Core.Path.{_≡_, refl, sym, ap, _∙_}
+use mathlib.Core.Path.{_≡_, refl, sym, ap, ap₂, _∙_}
 use lib.ListN.{length}
 use Rattle.rules.specs.declared.Row.{Row}
 use Rattle.rules.specs.Running.{Record, State, Attempt, finished, denied, roomless, taken}
@@ -15,18 +15,24 @@ use Rattle.step.specs.Turns.{Goes, Stays, Turned}
 use Rattle.step.specs.Open.{SameTurn, TurnIsDecided}
 use Rattle.step.proofs.ArrayLaws.{items-length, sets-length, records-length, trace-law}
 
--- an attempt's state, and its row: what two equal attempts have in common
+-- an attempt's state, its row and its set: what two equal attempts have in common
 abbrev stateIn : State → Attempt → State
 stateIn σ finished = σ
-stateIn σ (denied row) = σ
+stateIn σ (denied row because) = σ
 stateIn σ (roomless row) = σ
 stateIn σ (taken next) = next
 
 abbrev rowIn : Attempt → ℕ
 rowIn finished = 0
-rowIn (denied row) = row
+rowIn (denied row because) = row
 rowIn (roomless row) = row
 rowIn (taken next) = 0
+
+abbrev setIn : Attempt → ℕ
+setIn finished = 0
+setIn (denied row because) = because
+setIn (roomless row) = 0
+setIn (taken next) = 0
 
 -- the two attempts are not alike
 apart : {A : Type 0} {x y : Attempt} → (number : Attempt → ℕ) → (number x ≡ 0) → (number y ≡ 1) → x ≡ y → A
@@ -34,13 +40,13 @@ apart number zeroth first e = let z = sym zeroth ∙ ap number e ∙ first in ab
 
 abbrev isTaken : Attempt → ℕ
 isTaken finished = 0
-isTaken (denied row) = 0
+isTaken (denied row because) = 0
 isTaken (roomless row) = 0
 isTaken (taken next) = 1
 
 abbrev isRoomless : Attempt → ℕ
 isRoomless finished = 0
-isRoomless (denied row) = 0
+isRoomless (denied row because) = 0
 isRoomless (roomless row) = 1
 isRoomless (taken next) = 0
 
@@ -75,18 +81,18 @@ module _ (rows : List Row) (before : Arrays) (h : Held) (a b : Arrays) (h₁ h�
 
 pub turn-is-decided : TurnIsDecided
 turn-is-decided rows before h a b (Went h₁) (Went h₂) x y = went-same rows before h a b h₁ h₂ x y
-turn-is-decided rows before h a b (Went h₁) (Stopped row) x y = apart isTaken refl refl (sym (y .step 0) ∙ x .step 0)
+turn-is-decided rows before h a b (Went h₁) (Stopped row because) x y = apart isTaken refl refl (sym (y .step 0) ∙ x .step 0)
 turn-is-decided rows before h a b (Went h₁) (NoRoom row) x y = apart isTaken refl refl (sym (y .step 0) ∙ x .step 0)
-turn-is-decided rows before h a b (Stopped row) (Went h₂) x y = apart isTaken refl refl (sym (x .step 0) ∙ y .step 0)
-turn-is-decided rows before h a b (Stopped row) (Stopped row′) x y = record {
-  turn-same = ap Stopped (ap rowIn (sym (x .step 0) ∙ y .step 0));
+turn-is-decided rows before h a b (Stopped row because) (Went h₂) x y = apart isTaken refl refl (sym (x .step 0) ∙ y .step 0)
+turn-is-decided rows before h a b (Stopped row because) (Stopped row′ because′) x y = record {
+  turn-same = let same = sym (x .step 0) ∙ y .step 0 in ap₂ Stopped (ap rowIn same) (ap setIn same);
   state-same = λ steps. x .same steps ∙ sym (y .same steps);
   words-same = ap (λ (σ : State). σ .memory) (x .same 0 ∙ sym (y .same 0));
   trace-same = x .trace ∙ sym (y .trace);
 }
-turn-is-decided rows before h a b (Stopped row) (NoRoom row′) x y = apart isRoomless refl refl (sym (x .step 0) ∙ y .step 0)
+turn-is-decided rows before h a b (Stopped row because) (NoRoom row′) x y = apart isRoomless refl refl (sym (x .step 0) ∙ y .step 0)
 turn-is-decided rows before h a b (NoRoom row) (Went h₂) x y = apart isTaken refl refl (sym (x .step 0) ∙ y .step 0)
-turn-is-decided rows before h a b (NoRoom row) (Stopped row′) x y = apart isRoomless refl refl (sym (y .step 0) ∙ x .step 0)
+turn-is-decided rows before h a b (NoRoom row) (Stopped row′ because′) x y = apart isRoomless refl refl (sym (y .step 0) ∙ x .step 0)
 turn-is-decided rows before h a b (NoRoom row) (NoRoom row′) x y = record {
   turn-same = ap NoRoom (ap rowIn (sym (x .step 0) ∙ y .step 0));
   state-same = λ steps. x .same steps ∙ sym (y .same steps);

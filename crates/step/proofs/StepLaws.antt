@@ -324,7 +324,8 @@ module _ (rows : List Row) (w e p t : List ℕ) (h : Held) (at : Holds rows (arr
     free-room room = lt-ltb (length (recordsOf t (h .records))) (T .room) (omega (arith, records-length t (h .records), room-law (length t)))
 
     pub denied-law :
-        (eqb channel 0 && (provisional (level (h .marks) x) || context P)) ≡ true → Says rows (arrays w e p t) h (λ steps. denied row)
+        (eqb channel 0 && (provisional (level (h .marks) x) || context P)) ≡ true
+        → Says rows (arrays w e p t) h (λ steps. denied row (level (h .marks) x))
     denied-law deny =
         says (statement (output channel x row)) (is-next (output channel x row) next stands) _
         (λ s. attempt-denied T K w (h .marks) P (G s) channel x row deny)

@@ -12,12 +12,12 @@ use Rattle.step.specs.Turns.{Turned}
 -- how much of each array the state takes after a turn, and how many steps it is then
 abbrev pub heldAfter : Turn → Held → Held
 heldAfter (Went h′) h = h′
-heldAfter (Stopped row) h = h
+heldAfter (Stopped row because) h = h
 heldAfter (NoRoom row) h = h
 
 abbrev pub stepsAfter : Turn → ℕ → ℕ
 stepsAfter (Went h′) steps = steps + 1
-stepsAfter (Stopped row) steps = steps
+stepsAfter (Stopped row because) steps = steps
 stepsAfter (NoRoom row) steps = steps
 
 -- Two turns that meet the contract, each with the arrays that it left, for the same arrays before: they say the same, and the

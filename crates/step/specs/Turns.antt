@@ -49,13 +49,13 @@ pub record Stays (rows : List Row) (a : Arrays) (h : Held) (a′ : Arrays) (said
 -- what a turn says of the arrays before and after
 abbrev pub Turned : List Row → Arrays → Held → Arrays → Turn → Type 0
 Turned rows a h a′ (Went h′) = Goes rows a h a′ h′
-Turned rows a h a′ (Stopped row) = Stays rows a h a′ (denied row)
+Turned rows a h a′ (Stopped row because) = Stays rows a h a′ (denied row because)
 Turned rows a h a′ (NoRoom row) = Stays rows a h a′ (roomless row)
 
 -- The same for a statement that is no sequence: where the step is not taken no array has changed.
 abbrev pub Applied : List Row → Arrays → Held → Arrays → Turn → Type 0
 Applied rows a h a′ (Went h′) = Goes rows a h a′ h′
-Applied rows a h a′ (Stopped row) = (a′ ≡ a) × Says rows a h (λ steps. denied row)
+Applied rows a h a′ (Stopped row because) = (a′ ≡ a) × Says rows a h (λ steps. denied row because)
 Applied rows a h a′ (NoRoom row) = (a′ ≡ a) × Says rows a h (λ steps. roomless row)
 
 -- ---- the statement that is next
@@ -211,6 +211,7 @@ PutOut at channel e w t h t′ (Went h′) =
     (denies channel (level (h .marks) e) (h .pile) ≡ false) × (h .records * 2 + 1 < length t)
     × (t′ ≡ set (set t (h .records * 2) channel) (h .records * 2 + 1) (value w e))
     × (h′ ≡ record { pending = h .pending - 1; pile = h .pile; records = h .records + 1; marks = h .marks })
-PutOut at channel e w t h t′ (Stopped row) = (row ≡ at) × (denies channel (level (h .marks) e) (h .pile) ≡ true) × (t′ ≡ t)
+PutOut at channel e w t h t′ (Stopped row because) =
+    (row ≡ at) × (denies channel (level (h .marks) e) (h .pile) ≡ true) × (because ≡ level (h .marks) e) × (t′ ≡ t)
 PutOut at channel e w t h t′ (NoRoom row) =
     (row ≡ at) × (denies channel (level (h .marks) e) (h .pile) ≡ false) × (length t ≤ h .records * 2 + 1) × (t′ ≡ t)

@@ -40,10 +40,10 @@ pub struct Held {
     pub marks: Marks,
 }
 
-// What comes of a step: the state goes on, or the output at a row is denied, or without room.
+// What comes of a step: the state goes on, or the output at a row is denied, because of these variables, or without room.
 pub enum Turn {
     Went(Held),
-    Stopped(u32),
+    Stopped { row: u32, because: Marks },
     NoRoom(u32),
 }
 
@@ -290,7 +290,10 @@ fn put_out(
 {
     let shown = evaluate(table, row.q, words, held.marks);
     if is_denied(row.p, shown.level, held.pile) {
-        return Turn::Stopped(at);
+        return Turn::Stopped {
+            row: at,
+            because: shown.level,
+        };
     }
     let first = held.records * 2;
     if trace.len() <= first + 1 {

@@ -57,7 +57,7 @@ pub const VARIABLES: usize = 32;
 /// How many words each function's answer takes.
 pub const JUDGE_WORDS: usize = 3;
 pub const CHECK_WORDS: usize = 4;
-pub const RUN_WORDS: usize = 6;
+pub const RUN_WORDS: usize = 7;
 pub const READ_WORDS: usize = 7;
 
 /// How many words a row of a table and a record of a trace take.
@@ -99,11 +99,12 @@ pub struct Advice {
 }
 
 /// How a run ended: done, stopped by the monitor at an output's row, with its budget used up, or at an output's row without
-/// room; or refused.
+/// room; or refused. `because` is the set of the provisional variables that the output's expression reads, bit i for variable i; it
+/// is 0 where it reads none and its context alone is provisional.
 #[derive(Clone, Copy, Debug, PartialEq, Eq)]
 pub enum Ended {
     Done,
-    Stopped(u32),
+    Stopped { row: u32, because: u32 },
     Spent,
     NoRoom(u32),
     Refused { number: u32, row: u32 },
@@ -198,7 +199,7 @@ impl Ended {
     pub fn verdict(self) -> Option<Verdict> {
         match self {
             Ended::Done => Some(Verdict::Done),
-            Ended::Stopped(_) => Some(Verdict::Stopped),
+            Ended::Stopped { .. } => Some(Verdict::Stopped),
             Ended::Spent => Some(Verdict::Spent),
             Ended::NoRoom(_) => Some(Verdict::NoRoom),
             Ended::Refused { .. } => None,
@@ -244,11 +245,29 @@ impl fmt::Display for Checked {
     }
 }
 
+/// The variables of a set, such as a mark set or what a run was stopped because of, lowest first.
+pub fn variables_in(set: u32) -> impl Iterator<Item = u32> {
+    (0..VARIABLES as u32).filter(move |variable| set >> variable & 1 == 1)
+}
+
+/// Writes what a run was stopped because of: the variables, or its context alone.
+fn write_because(f: &mut fmt::Formatter<'_>, because: u32) -> fmt::Result {
+    f.write_str(" because of")?;
+    if because == 0 {
+        return f.write_str(" its context");
+    }
+    variables_in(because).try_for_each(|variable| write!(f, " v{variable}"))
+}
+
 impl fmt::Display for Ended {
     fn fmt(&self, f: &mut fmt::Formatter<'_>) -> fmt::Result {
         match *self {
             Ended::Done => write!(f, "done: {}", Verdict::Done),
-            Ended::Stopped(row) => write!(f, "stopped at row {row}: {}", Verdict::Stopped),
+            Ended::Stopped { row, because } => {
+                write!(f, "stopped at row {row}")?;
+                write_because(f, because)?;
+                write!(f, ": {}", Verdict::Stopped)
+            }
             Ended::Spent => write!(f, "spent: {}", Verdict::Spent),
             Ended::NoRoom(row) => write!(f, "no room at row {row}: {}", Verdict::NoRoom),
             Ended::Refused { number, row } => write_refused(f, number, row),
@@ -333,10 +352,10 @@ pub fn run(
         )
     };
     debug_assert_eq!(status, 0);
-    let [refusal, verdict, row, steps, records, marks] = answer;
+    let [refusal, verdict, row, steps, records, marks, because] = answer;
     let ended = match (refusal, verdict) {
         (0, 0) => Ended::Done,
-        (0, 1) => Ended::Stopped(row),
+        (0, 1) => Ended::Stopped { row, because },
         (0, 2) => Ended::Spent,
         (0, _) => Ended::NoRoom(row),
         (number, _) => Ended::Refused { number, row },

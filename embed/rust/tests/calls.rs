@@ -1,8 +1,8 @@
 //! The safe functions on worked runs of docs/RULES.md.
 
 use buzorinde::{
-    check, judge, run, Advice, Answer, Checked, Ended, Judged, Record, PROVISIONAL, SETTLED,
-    VARIABLES,
+    check, judge, library, run, variables_in, Advice, Answer, Checked, Ended, Judged, Record,
+    PROVISIONAL, SETTLED, VARIABLES,
 };
 
 /// The whole case, 12.13: v0 out on channel 0, then v1 out on channel 1.
@@ -62,7 +62,7 @@ fn each_verdict() {
         .ended
     };
     assert_eq!(ended(&WHOLE, 2, 2, 4), Ended::Done);
-    assert_eq!(ended(&B, 1, 100, 0), Ended::Stopped(3));
+    assert_eq!(ended(&B, 1, 100, 0), Ended::Stopped { row: 3, because: 1 });
     assert_eq!(ended(&WHOLE, 2, 1, 4), Ended::Spent);
     assert_eq!(ended(&WHOLE, 2, 10, 3), Ended::NoRoom(3));
     assert_eq!(
@@ -73,6 +73,54 @@ fn each_verdict() {
         ended(&WHOLE, 2, 10, 16385),
         Ended::Refused { number: 6, row: 0 }
     );
+}
+
+/// Runs 12.14 and G: what a run is stopped because of, which of the marks alone does not say.
+#[test]
+fn what_a_run_is_stopped_because_of() {
+    let sum = [
+        9, 0, 0, 0, 9, 1, 0, 0, 9, 2, 0, 0, 10, 0, 1, 2, 10, 0, 0, 3, 5, 0, 4, 0,
+    ];
+    let inside = [
+        9, 0, 0, 0, 9, 1, 0, 0, 5, 0, 1, 0, 8, 0, 0, 0, 1, 2, 3, 0, 3, 0, 2, 4,
+    ];
+    let g = [9, 0, 0, 0, 8, 5, 0, 0, 5, 0, 1, 0, 0, 0, 0, 0, 3, 0, 2, 3];
+    let ended = |table: &[u32], marks| run(table, &mut memory(&[1]), marks, 100, &mut []).ended;
+    assert_eq!(ended(&sum, 13), Ended::Stopped { row: 5, because: 5 });
+    assert_eq!(ended(&inside, 3), Ended::Stopped { row: 2, because: 2 });
+    assert_eq!(ended(&g, 1), Ended::Stopped { row: 2, because: 0 });
+    assert_eq!(variables_in(5).collect::<Vec<u32>>(), [0, 2]);
+    assert_eq!(variables_in(1 << 31).collect::<Vec<u32>>(), [31]);
+    assert_eq!(variables_in(0).count(), 0);
+}
+
+/// The words of an answer that a caller of the library lends a buffer of so many words for, and the status.
+fn answer_words(table: &[u32], words: usize) -> (u32, Vec<u32>) {
+    let mut answer = vec![5; words];
+    let mut memory = memory(&[7, 9]);
+    // SAFETY: each pointer comes from a slice with its length, and no two of those that are written are the same.
+    let status = unsafe {
+        library::buzorinde_run(
+            table.as_ptr(),
+            table.len(),
+            memory.as_mut_ptr(),
+            memory.len(),
+            1,
+            100,
+            [].as_mut_ptr(),
+            0,
+            answer.as_mut_ptr(),
+            answer.len(),
+        )
+    };
+    (status, answer)
+}
+
+/// A caller with the length before version 0.4.0 is told so, and its buffer is as it was.
+#[test]
+fn six_words_are_too_short() {
+    assert_eq!(answer_words(&B, 6), (1, vec![5; 6]));
+    assert_eq!(answer_words(&B, 8), (0, vec![0, 1, 3, 0, 0, 1, 1, 5]));
 }
 
 #[test]

@@ -233,7 +233,7 @@ fn run_b_as_a_text() {
     let (table, advice, answer) = read_and_run("in v0 provisional; settled (v0 - v0)", &[]);
     assert_eq!(table, [9, 0, 0, 0, 9, 0, 0, 0, 10, 1, 0, 1, 5, 0, 2, 0]);
     assert_eq!(advice.checked, Checked::Fail(3));
-    assert_eq!(answer.ended, Ended::Stopped(3));
+    assert_eq!(answer.ended, Ended::Stopped { row: 3, because: 1 });
     assert_eq!(answer.steps, 0);
 }
 
@@ -255,7 +255,10 @@ fn the_cut_off_interview_as_a_text() {
     assert_eq!(
         answer,
         Answer {
-            ended: Ended::Stopped(13),
+            ended: Ended::Stopped {
+                row: 13,
+                because: 0
+            },
             steps: 5,
             records: 0,
             marks: 3

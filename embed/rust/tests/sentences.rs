@@ -1,6 +1,8 @@
 //! The sentences and the version are those of the list that the header for C is tried with.
 
-use buzorinde::{check, judge, read, run, CheckVerdict, Refusal, Status, Verdict, VARIABLES};
+use buzorinde::{
+    check, judge, read, run, CheckVerdict, Ended, Refusal, Status, Verdict, VARIABLES,
+};
 
 /// A line of the list for each number up to the first beyond the last case.
 fn lines<T: ToString>(
@@ -72,7 +74,15 @@ fn an_answer_says_its_row() {
     assert_eq!(check(&EMPTY, 1).checked.to_string(), refused);
     assert_eq!(
         ended(&B, 100, 16).to_string(),
-        "stopped at row 3: the monitor stopped the run before it told the settled channel something provisional"
+        "stopped at row 3 because of v0: the monitor stopped the run before it told the settled channel something provisional"
+    );
+    assert_eq!(
+        Ended::Stopped { row: 5, because: 5 }.to_string(),
+        "stopped at row 5 because of v0 v2: the monitor stopped the run before it told the settled channel something provisional"
+    );
+    assert_eq!(
+        Ended::Stopped { row: 2, because: 0 }.to_string(),
+        "stopped at row 2 because of its context: the monitor stopped the run before it told the settled channel something provisional"
     );
     assert_eq!(
         ended(&B, 0, 16).to_string(),

@@ -7,7 +7,7 @@ use lib.ListN.{length, take, replicate}
 use Rattle.rules.specs.Limits.{width}
 use Rattle.embed.specs.declared.Numbers.{Numbers}
 use Rattle.embed.specs.Calls.{saidWords, laid, RunCall}
-use mathlib.Core.Path.{_≡_, sym, ap, _∙_}
+use mathlib.Core.Path.{_≡_, sym, ap₂, _∙_}
 use Rattle.rules.specs.Answers.{inputs}
 use Rattle.leaves.proofs.CopyLaws.{copied-all}
 use Rattle.embed.proofs.CallLaws.{run-short-answer, run-short-memory, run-given, run-answered}
@@ -51,6 +51,9 @@ copy-words-requires-2 c κs = search needs
 run-numbers-requires : tie.Need-run-numbers-requires
 run-numbers-requires c κs = search needs
 
+because-of-requires : tie.Need-because-of-requires
+because-of-requires c κs = search needs
+
 put-run-requires : tie.Need-put-run-requires
 put-run-requires c κs = search needs
 
@@ -66,7 +69,8 @@ same-length-3 c = search needs
 returns-3 : tie.Need-returns-3
 returns-3 c =
     let put = c .before .before in
-    let numbers = put .before in
+    let spoiled = put .before in
+    let numbers = spoiled .before in
     let copied = numbers .before .before .before .before in
     let ran = copied .before .before .before .before .before .before in
     let given = ran .before .before .before in
@@ -76,7 +80,9 @@ returns-3 c =
     run-answered i (a .answer .now) (ran .run .result) _ (long .before .if1 .left) (long .if2 .left) (whole ran)
     (run-given i (a .answer .now) _ (ran .run .result) _ (given .copy-words .ensures ∙ copied-all width (a .memory .now) (replicate width 0) (long .if2 .left) (omega arith) ∙ append-nil (take width (a .memory .now))) (ran .run .ensures))
     ∙ left (sym (copied .copy-words2 .ensures ∙ copied-all width (ran .run .result .memory .words) (a .memory .now) (let w = whole ran in omega arith) (long .if2 .left)))
-    (ap (λ (n : Numbers). laid (saidWords n ++ ran .run .result .steps ∷ ran .run .result .records ∷ ran .run .result .marks ∷ []) (a .answer .now)) (sym (numbers .run-numbers .ensures))
+    (ap₂
+    (λ (n : Numbers) (because : ℕ). laid (saidWords n ++ ran .run .result .steps ∷ ran .run .result .records ∷ ran .run .result .marks ∷ because ∷ []) (a .answer .now))
+    (sym (numbers .run-numbers .ensures)) (sym (spoiled .because-of .ensures))
     ∙ sym (put .put-run .ensures))
 
 pub buzorinde-run-spec : {M : Type 1} → statement M
@@ -91,6 +97,7 @@ buzorinde-run-spec =
     slice-aggregate-copy-words-2
     copy-words-requires-2
     run-numbers-requires
+    because-of-requires
     put-run-requires
     same-length
     same-length-2

@@ -1,4 +1,4 @@
--- `embed::put_run` meets its contract: three stores after the numbers.
+-- `embed::put_run` meets its contract: four stores after the numbers.
 use borrow.Author.Needs.{needs}
 use native.Mathlib.Omega.{arith}
 use Prim.Native.Nat.{ℕ}
@@ -21,7 +21,10 @@ slice-write-answer-2 : tie.Need-slice-write-answer-2
 slice-write-answer-2 c = simp length-set (omega (arith, c .before .before .put-numbers .kept))
 
 slice-write-answer-3 : tie.Need-slice-write-answer-3
-slice-write-answer-3 c = search needs
+slice-write-answer-3 c = simp length-set (omega (arith, c .before .before .put-numbers .kept))
+
+slice-write-answer-4 : tie.Need-slice-write-answer-4
+slice-write-answer-4 c = search needs
 
 same-length : tie.Need-same-length
 same-length c = search needs
@@ -30,8 +33,8 @@ returns : tie.Need-returns
 returns c =
     let put = c .before .before in
     let a = put .before .before .before .args in
-    ap (λ (l : List ℕ). sets l 3 (a .steps ∷ a .records ∷ a .marks ∷ [])) (put .put-numbers .ensures)
-    ∙ laid-more (saidWords (a .numbers)) (a .steps ∷ a .records ∷ a .marks ∷ []) (a .answer .now) (put .before .before .before .pre)
+    ap (λ (l : List ℕ). sets l 3 (a .steps ∷ a .records ∷ a .marks ∷ a .because ∷ [])) (put .put-numbers .ensures)
+    ∙ laid-more (saidWords (a .numbers)) (a .steps ∷ a .records ∷ a .marks ∷ a .because ∷ []) (a .answer .now) (put .before .before .before .pre)
 
 pub put-run-spec : {M : Type 1} → statement M
 put-run-spec =
@@ -41,5 +44,6 @@ put-run-spec =
     slice-write-answer
     slice-write-answer-2
     slice-write-answer-3
+    slice-write-answer-4
     same-length
     returns)

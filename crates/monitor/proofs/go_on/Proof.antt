@@ -104,7 +104,7 @@ returns-3 c =
     let a = start .args in
     let now = loop .loop in
     subst (Went (rowsOf (a .table .now)) (arrays (a .memory .words) (a .entries .now) (a .pile .now) (a .trace .now)) (a .held) (a .budget) _ _ _) (sym (c .end-run3 .ensures))
-    (stopped-here (rowsOf (a .table .now)) (arrays (a .memory .words) (a .entries .now) (a .pile .now) (a .trace .now)) (a .held) (a .budget) (arrays (now .words) (now .entries) (now .pile) (now .trace)) (now .here) (now .steps) (now .inv) (c .before .before .before .before .before .before .before .before .before .before .before .if2 .left) _ (arrays _ _ _ _)
+    (stopped-here (rowsOf (a .table .now)) (arrays (a .memory .words) (a .entries .now) (a .pile .now) (a .trace .now)) (a .held) (a .budget) (arrays (now .words) (now .entries) (now .pile) (now .trace)) (now .here) (now .steps) (now .inv) (c .before .before .before .before .before .before .before .before .before .before .before .if2 .left) _ _ (arrays _ _ _ _)
     (subst (Turned (rowsOf (a .table .now)) (arrays (now .words) (now .entries) (now .pile) (now .trace)) (now .here) (arrays _ _ _ _)) (c .before .before .turn2 .given .1) (c .before .before .before .before .before .before .step .ensures)))
 
 enum-known-turn-3 : tie.Need-enum-known-turn-3 Inv-loop μ-loop

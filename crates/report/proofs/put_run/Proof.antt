@@ -34,7 +34,7 @@ returns c =
     let at-put-head = at-put-memory .before .before .before .before .before .before in
     let start = at-put-head .before .before .before .before .before in
     let args = start .args in
-    placed-run (args .verdict) (args .place) (args .answer) (now (args .trace)) (start .pre .0) (at-put-head .put-head .ensures)
+    placed-run (args .verdict) (args .place) (args .because) (args .answer) (now (args .trace)) (start .pre .0) (at-put-head .put-head .ensures)
     (at-put-memory .put-memory .ensures) (at-put-line .put-line .ensures) (at-put-records .put-records .ensures)
 
 pub put-run-spec : {M : Type 1} → statement M

@@ -2,6 +2,7 @@
 use mathlib.Core.Path.{refl, _∙_}
 use denote.Ref.{now}
 use Rattle.rules.specs.declared.Ended.{Ended}
+use Rattle.rules.proofs.MarkLaws.{none-zero}
 use Rattle.report.proofs.ReportLaws.{written-verdict, written-refused}
 use borrow.Author.Needs.{needs}
 use Rattle.report.proofs.write_report.Statement.{statement}
@@ -47,7 +48,7 @@ returns c =
     let start = at-enum-told .before .before .before .before in
     let args = start .args in
     at-write-run .write-run .ensures
-    ∙ written-verdict (args .answer) (now (args .trace)) (now (args .out)) Ended.Done 0 0 (at-enum-told .enum-told .given .1) refl
+    ∙ written-verdict (args .answer) (now (args .trace)) (now (args .out)) Ended.Done 0 0 0 (at-enum-told .enum-told .given .1) refl none-zero
 
 same-length-2 : tie.Need-same-length-2
 same-length-2 c = search needs
@@ -59,7 +60,7 @@ returns-2 c =
     let start = at-ended .before .before .before .before in
     let args = start .args in
     at-write-run2 .write-run2 .ensures
-    ∙ written-verdict (args .answer) (now (args .trace)) (now (args .out)) (Ended.Stopped (at-ended .ended .given .0 .0)) 1 (at-ended .ended .given .0 .0) (at-ended .ended .given .1) refl
+    ∙ written-verdict (args .answer) (now (args .trace)) (now (args .out)) (Ended.Stopped (at-ended .ended .given .0 .0) (at-ended .ended .given .0 .1 .0)) 1 (at-ended .ended .given .0 .0) (at-ended .ended .given .0 .1 .0) (at-ended .ended .given .1) refl refl
 
 same-length-3 : tie.Need-same-length-3
 same-length-3 c = search needs
@@ -71,7 +72,7 @@ returns-3 c =
     let start = at-enum-told2 .before .before .before .before in
     let args = start .args in
     at-write-run3 .write-run3 .ensures
-    ∙ written-verdict (args .answer) (now (args .trace)) (now (args .out)) Ended.Spent 2 0 (at-enum-told2 .enum-told2 .given .1) refl
+    ∙ written-verdict (args .answer) (now (args .trace)) (now (args .out)) Ended.Spent 2 0 0 (at-enum-told2 .enum-told2 .given .1) refl none-zero
 
 same-length-4 : tie.Need-same-length-4
 same-length-4 c = search needs
@@ -83,7 +84,7 @@ returns-4 c =
     let start = at-ended2 .before .before .before .before in
     let args = start .args in
     at-write-run4 .write-run4 .ensures
-    ∙ written-verdict (args .answer) (now (args .trace)) (now (args .out)) (Ended.NoRoom (at-ended2 .ended2 .given .0 .0)) 3 (at-ended2 .ended2 .given .0 .0) (at-ended2 .ended2 .given .1) refl
+    ∙ written-verdict (args .answer) (now (args .trace)) (now (args .out)) (Ended.NoRoom (at-ended2 .ended2 .given .0 .0)) 3 (at-ended2 .ended2 .given .0 .0) 0 (at-ended2 .ended2 .given .1) refl none-zero
 
 same-length-5 : tie.Need-same-length-5
 same-length-5 c = search needs

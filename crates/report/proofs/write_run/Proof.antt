@@ -17,7 +17,7 @@ mul-if1 c = search needs
 returns : tie.Need-returns
 returns c =
     let args = c .before .before .before .before .args in
-    let text = runText (args .verdict) (args .place) (wholeOf (args .answer) (now (args .trace))) in
+    let text = runText (args .verdict) (args .place) (args .because) (wholeOf (args .answer) (now (args .trace))) in
     run-lacking (args .answer .records) text (now (args .trace)) (now (args .out)) (c .if1 .taken)
 
 mul-if2 : tie.Need-mul-if2
@@ -31,7 +31,7 @@ returns-2 c =
     let at-if1 = c .before in
     let start = at-if1 .before .before .before .before in
     let args = start .args in
-    let text = runText (args .verdict) (args .place) (wholeOf (args .answer) (now (args .trace))) in
+    let text = runText (args .verdict) (args .place) (args .because) (wholeOf (args .answer) (now (args .trace))) in
     written-short (mostRun (args .answer .records)) text (now (args .out)) (c .if2 .taken)
     ∙ run-counted (args .answer .records) text (now (args .trace)) (now (args .out)) (at-if1 .if1 .left)
 
@@ -48,8 +48,8 @@ returns-3 c =
     let at-if1 = at-if2 .before in
     let start = at-if1 .before .before .before .before in
     let args = start .args in
-    let text = runText (args .verdict) (args .place) (wholeOf (args .answer) (now (args .trace))) in
-    written-whole (mostRun (args .answer .records)) text (now (args .out)) (at-put-run .put-run .result) (at-put-run .put-run .last .1 .1 .1 .1 .0) (at-if2 .if2 .left)
+    let text = runText (args .verdict) (args .place) (args .because) (wholeOf (args .answer) (now (args .trace))) in
+    written-whole (mostRun (args .answer .records)) text (now (args .out)) (at-put-run .put-run .result) (at-put-run .put-run .last .1 .1 .1 .1 .1 .0) (at-if2 .if2 .left)
     (at-put-run .put-run .ensures)
     ∙ run-counted (args .answer .records) text (now (args .trace)) (now (args .out)) (at-if1 .if1 .left)
 

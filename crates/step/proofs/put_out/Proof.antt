@@ -5,7 +5,7 @@ use Prim.Native.Nat.{ℕ, _*_, _+_}
 use lib.ListN.{set}
 use Rattle.rules.specs.Rows.{rowsOf}
 use Rattle.rules.specs.Trees.{exprAt}
-use Rattle.step.proofs.ArrayLaws.{value-found, denied-found}
+use Rattle.step.proofs.ArrayLaws.{level-found, value-found, denied-found}
 use borrow.Author.Needs.{needs}
 use Rattle.step.proofs.put_out.Statement.{statement}
 use Rattle.step.proofs.put_out.Tie as tie
@@ -21,8 +21,12 @@ returns c =
     let evaluated = c .before .before in
     let a = evaluated .before .before .before .args in
     let x = exprAt (rowsOf (a .table .now)) (a .row .q) in
-    let deny = denied-found (a .words .now) (a .held .marks) x (evaluated .evaluate .result) (evaluated .evaluate .ensures) (a .row .p) (a .held .pile) in
-    (refl, deny true (c .before .is-denied .result) (c .before .is-denied .ensures) (c .if1 .taken), refl)
+    let deny = denied-found (a .words .now) (a .held .marks) x (evaluated .evaluate .result) (evaluated .evaluate .ensures) (a .row .p) (a .held .pile) in (
+      refl,
+      deny true (c .before .is-denied .result) (c .before .is-denied .ensures) (c .if1 .taken),
+      level-found (a .words .now) (a .held .marks) x (evaluated .evaluate .result) (evaluated .evaluate .ensures),
+      refl,
+    )
 
 mul-first : tie.Need-mul-first
 mul-first c = search needs
