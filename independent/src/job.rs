@@ -176,11 +176,17 @@ pub fn refusal_lines(refusal: Refusal) -> String {
     format!("refused={}\nat={}\n", refusal.number, refusal.at)
 }
 
+/// "The report gains `because=` after `place=`"
 pub fn end_lines(end: &End) -> String {
     match end {
         End::Refused(refusal) => refusal_lines(*refusal),
-        End::Ended { verdict, place } => {
-            format!("verdict={}\nplace={}\n", *verdict as u32, place)
+        End::Ended {
+            verdict,
+            place,
+            because,
+        } => {
+            let verdict = *verdict as u32;
+            format!("verdict={verdict}\nplace={place}\nbecause={because}\n")
         }
     }
 }

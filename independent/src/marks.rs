@@ -18,6 +18,13 @@ pub fn to_bits(marks: &Marks) -> u32 {
     })
 }
 
+/// The set of this variable alone.
+pub fn only(variable: usize) -> Marks {
+    let mut set = EMPTY;
+    set[variable] = true;
+    set
+}
+
 pub fn united(one: &Marks, other: &Marks) -> Marks {
     std::array::from_fn(|variable| one[variable] || other[variable])
 }

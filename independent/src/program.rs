@@ -18,7 +18,8 @@ const MOST_CHECKED_WORDS: usize = 160;
 /// Cases of rows whose table has at most so many words.
 const MOST_ROWS_WORDS: usize = 512;
 /// Longer cases that are in the stream all the same: a limit met, or just exceeded.
-const LONGER: [&str; 4] = [
+const LONGER: [&str; 5] = [
+    "run-because-all-variables",
     "run-k-16384-trace-words",
     "run-k-16385-trace-words",
     "run-refused-5-before-6",
@@ -26,6 +27,8 @@ const LONGER: [&str; 4] = [
 ];
 /// Judge cases of the limits of tables: all are in the stream.
 const LIMITS: &str = "judge-k-";
+/// Where `because` stands among a run's numbers: after whether it was refused, verdict and place.
+const BECAUSE: usize = 3;
 
 /// What the program reads, and what it must write.
 pub struct Streams {
@@ -122,9 +125,13 @@ fn told_numbers(answered: &Lines) -> Vec<String> {
     numbers
 }
 
-/// The same without the trace's length; of a long trace, in place of its words, their sum.
+/// The same without the trace's length; of a long trace, in place of its words, their sum. A
+/// refused run has no `because`, and its line has 0 there.
 fn run_numbers(answered: &Lines) -> Vec<String> {
     let mut numbers = told_numbers(&answered.without("lent").without("trace"));
+    if answered.word("because").is_empty() {
+        numbers.insert(BECAUSE, "0".to_string());
+    }
     let trace = answered.only("trace").numbers();
     if trace.len() > MOST_TRACE_WORDS {
         numbers.push(sum(&trace).to_string());

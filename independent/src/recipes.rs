@@ -236,6 +236,15 @@ pub fn of_rows(rows: usize) -> Part {
     all_left(statements)
 }
 
+/// The sum of these variables, at least one, no taller than it must be.
+pub fn sum_of(variables: &[u32]) -> Part {
+    if let [alone] = variables {
+        return variable(*alone);
+    }
+    let (left, right) = variables.split_at(variables.len() / 2);
+    binary(SUM, sum_of(left), sum_of(right))
+}
+
 /// An expression of this height, taller on the left.
 pub fn tall_left(height: u32) -> Part {
     (1..height).fold(variable(0), |tall, _| binary(SUM, tall, constant(1)))

@@ -17,11 +17,16 @@ pub enum Verdict {
     NoRoom = 3,
 }
 
-/// "A refused run answers its number and row instead of verdict and place."
+/// "A refused run answers its number and row instead of verdict and place." `because` is a mark
+/// set: "the set for verdict 1 (0 when only the context was provisional), and 0 otherwise".
 #[derive(Clone, Copy, Debug, PartialEq, Eq)]
 pub enum End {
     Refused(Refusal),
-    Ended { verdict: Verdict, place: u32 },
+    Ended {
+        verdict: Verdict,
+        place: u32,
+        because: u32,
+    },
 }
 
 /// "Memory, marks, steps and records are those reached." The records are in the trace.
@@ -33,6 +38,14 @@ pub struct Answer {
     pub records: usize,
 }
 
+/// All that is known of a run where it ends: its answer, the marks reached, and whether the
+/// context was provisional there, which the answer does not say.
+pub struct Ending {
+    pub answer: Answer,
+    pub marks: u32,
+    pub context: bool,
+}
+
 /// Runs the recipe under the monitor; answers also the marks reached.
 pub fn run(
     words: &[u32],
@@ -41,7 +54,8 @@ pub fn run(
     budget: u32,
     trace: &mut [u32],
 ) -> (Answer, u32) {
-    run_told(words, memory, marks, budget, trace, &mut |_, _| {})
+    let ending = run_told(words, memory, marks, budget, trace, &mut |_, _| {});
+    (ending.answer, ending.marks)
 }
 
 /// The same, with someone who is told each expression whose value the run takes, and the memory.
@@ -52,10 +66,16 @@ pub fn run_told(
     budget: u32,
     trace: &mut [u32],
     told: Told,
-) -> (Answer, u32) {
+) -> Ending {
     let recipe = match accepted(words, trace) {
         Ok(recipe) => recipe,
-        Err(refusal) => return (refused(refusal, memory), marks),
+        Err(refusal) => {
+            return Ending {
+                answer: refused(refusal, memory),
+                marks,
+                context: false,
+            }
+        }
     };
     let mut watched = Watched {
         reached: Reached::start(memory, budget, trace),
@@ -64,7 +84,11 @@ pub fn run_told(
         told,
     };
     let walked = watched.walk(&recipe);
-    (watched.reached.answer(walked), to_bits(&watched.marks))
+    Ending {
+        answer: watched.reached.answer(walked),
+        marks: to_bits(&watched.marks),
+        context: watched.context(),
+    }
 }
 
 /// "The unwatched language has the same steps without marks, pile or denial."
@@ -101,6 +125,7 @@ fn refused(refusal: Refusal, memory: Memory) -> Answer {
 struct Stop {
     verdict: Verdict,
     place: u32,
+    because: Marks,
 }
 
 /// What a run has reached, watched or not.
@@ -129,6 +154,7 @@ impl Reached<'_> {
             return Err(Stop {
                 verdict: Verdict::BudgetUsed,
                 place: 0,
+                because: EMPTY,
             });
         }
         Ok(())
@@ -140,6 +166,7 @@ impl Reached<'_> {
             return Err(Stop {
                 verdict: Verdict::NoRoom,
                 place: row,
+                because: EMPTY,
             });
         }
         Ok(())
@@ -161,12 +188,17 @@ impl Reached<'_> {
 
     /// "A finished run is verdict 0, also when its last step used the budget."
     fn answer(&self, walked: Result<(), Stop>) -> Answer {
-        let (verdict, place) = match walked {
-            Ok(()) => (Verdict::Done, 0),
-            Err(stop) => (stop.verdict, stop.place),
+        let (verdict, place, because) = match walked {
+            Ok(()) => (Verdict::Done, 0, EMPTY),
+            Err(stop) => (stop.verdict, stop.place, stop.because),
         };
+        let because = to_bits(&because);
         Answer {
-            end: End::Ended { verdict, place },
+            end: End::Ended {
+                verdict,
+                place,
+                because,
+            },
             steps: self.steps,
             memory: self.memory,
             records: self.records,
@@ -187,8 +219,13 @@ struct Watched<'a> {
 
 impl Watched<'_> {
     /// "The run's context is provisional when the pile is not empty."
+    fn context(&self) -> bool {
+        !self.pile.is_empty()
+    }
+
+    /// Whether the expression or the context is provisional.
     fn provisional(&self, expression: &Expression) -> bool {
-        !self.pile.is_empty() || expression.provisional(&self.marks)
+        self.context() || expression.provisional(&self.marks)
     }
 
     /// The memory in which the value of this expression is taken now, which is told.
@@ -272,13 +309,15 @@ impl Watched<'_> {
     }
 
     /// "Output on channel 0: a record if expression and context are settled; otherwise the
-    /// monitor stops the run." The budget comes first, then the denial, then the room.
+    /// monitor stops the run", because of what the expression reads. The budget comes first,
+    /// then the denial, then the room.
     fn output(&mut self, channel: u32, expression: &Expression, row: u32) -> Result<(), Stop> {
         self.reached.need_budget()?;
         if channel == SETTLED && self.provisional(expression) {
             return Err(Stop {
                 verdict: Verdict::Denied,
                 place: row,
+                because: expression.level(&self.marks),
             });
         }
         self.reached.need_room(row)?;

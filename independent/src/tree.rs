@@ -1,6 +1,6 @@
 //! The trees that an accepted table stands for, and what the rules ask of them.
 
-use crate::marks::{united, Marks, EMPTY, VARIABLES};
+use crate::marks::{only, shared, united, Marks, EMPTY, VARIABLES};
 
 /// "carried with the run as a fixed set of 32 numbers"
 pub type Memory = [u32; VARIABLES];
@@ -86,15 +86,23 @@ impl Expression {
         self.value(memory) != 0
     }
 
-    /// "An expression is provisional when some variable read in it is marked."
-    pub fn provisional(&self, marks: &Marks) -> bool {
+    /// Every variable that is read in it, marked or not.
+    fn reads(&self) -> Marks {
         match self {
-            Expression::Constant(_) => false,
-            Expression::Variable(variable) => marks[*variable],
-            Expression::Binary(_, left, right) => {
-                left.provisional(marks) || right.provisional(marks)
-            }
+            Expression::Constant(_) => EMPTY,
+            Expression::Variable(variable) => only(*variable),
+            Expression::Binary(_, left, right) => united(&left.reads(), &right.reads()),
         }
+    }
+
+    /// "An expression's level is now the set of marked variables that it reads"
+    pub fn level(&self, marks: &Marks) -> Marks {
+        shared(&self.reads(), marks)
+    }
+
+    /// "provisional when not empty": "when some variable read in it is marked"
+    pub fn provisional(&self, marks: &Marks) -> bool {
+        self.level(marks) != EMPTY
     }
 }
 
@@ -118,11 +126,7 @@ impl Statement {
     pub fn may_assign(&self) -> Marks {
         match self {
             Statement::Skip | Statement::Output(..) => EMPTY,
-            Statement::Assign(variable, _) => {
-                let mut assigned = EMPTY;
-                assigned[*variable] = true;
-                assigned
-            }
+            Statement::Assign(variable, _) => only(*variable),
             Statement::Sequence(one, other) | Statement::If(_, one, other) => {
                 united(&one.may_assign(), &other.may_assign())
             }

@@ -16,6 +16,7 @@ pub fn vectors() -> Vec<Vector> {
         settled_tests(),
         loops_with_outputs(),
         marks(),
+        because(),
         orders(),
         sizes(),
     ];
@@ -240,6 +241,81 @@ fn marks() -> Named {
     ])
 }
 
+/// The marked variables that a denied output reads, by the marks where it stops the run: not
+/// the other marked ones, not what the tests around it read, not what stands in the pile.
+fn because() -> Named {
+    let told = |variables: &[u32]| output(SETTLED, sum_of(variables));
+    let every: Vec<u32> = (0..32).collect();
+    let within = |taken: Part, otherwise: Part| if_else(variable(0), taken, otherwise);
+    let read_before = all([
+        assign(2, variable(1)),
+        output(PROVISIONAL, variable(3)),
+        if_else(variable(4), skip(), skip()),
+        told(&[0]),
+    ]);
+    let marked_inside = sequence(assign(1, constant(5)), told(&[1]));
+    named([
+        ("because-two-variables", set(told(&[5, 0]), &[]).levels(33)),
+        (
+            "because-marked-among-settled",
+            set(told(&[0, 1, 2, 3]), &[]).levels(0b11010),
+        ),
+        ("because-v31", set(told(&[31]), &[]).levels(1 << 31)),
+        (
+            "because-all-variables",
+            set(told(&every), &[]).levels(u32::MAX),
+        ),
+        (
+            "because-every-second-of-all-variables",
+            set(told(&every), &[]).levels(0x5555_5555),
+        ),
+        (
+            "because-one-of-all-marked",
+            set(told(&[17]), &[]).levels(u32::MAX),
+        ),
+        (
+            "because-others-read-before",
+            set(read_before, &[]).levels(0b11011),
+        ),
+        (
+            "because-the-first-of-two-outputs",
+            set(sequence(told(&[0]), told(&[1])), &[]).levels(3),
+        ),
+        (
+            "because-marked-by-an-assignment",
+            set(sequence(assign(1, variable(0)), told(&[1])), &[]),
+        ),
+        (
+            "because-unmarked-by-then",
+            set(sequence(assign(0, constant(0)), told(&[0, 1])), &[]).levels(3),
+        ),
+        (
+            "because-only-the-context",
+            set(within(told(&[1, 2]), skip()), &[1]),
+        ),
+        (
+            "because-only-the-context-v2-in-the-pile",
+            set(within(told(&[2]), one(2)), &[1]),
+        ),
+        (
+            "because-expression-and-context",
+            set(within(told(&[1, 2]), one(3)), &[1]).levels(3),
+        ),
+        (
+            "because-marked-in-a-provisional-branch",
+            set(within(marked_inside, skip()), &[1]),
+        ),
+        (
+            "because-no-room-for-what-is-settled",
+            set(told(&[1]), &[]).room(0),
+        ),
+        (
+            "because-no-room-before-a-denied-output",
+            set(sequence(output(PROVISIONAL, constant(5)), told(&[0])), &[]).room(0),
+        ),
+    ])
+}
+
 /// The same recipes with their rows in another order: only places change.
 fn orders() -> Named {
     let run = |part: Part, inputs: &[u32]| Setting::of_words(lay_backward(&part)).inputs(inputs);
@@ -289,17 +365,35 @@ fn traces() -> Vec<Vector> {
         .collect()
 }
 
-/// Every record that a job can have, and one more; also with the longest numbers in every line of the report that can have them.
+/// Every record that a job can have, and one more; also with the longest numbers in every line of the report that can have them,
+/// and in that of a run that is denied after them.
 fn full_room() -> Vec<Vector> {
     let filled = |body: Part, inputs: &[u32]| {
         let endless = set(while_do(constant(1), body), inputs).budget(u32::MAX);
         endless.room(8192)
     };
-    let long = filled(output(PROVISIONAL, variable(0)), &[u32::MAX; 32]).levels(u32::MAX);
+    let noted = || output(PROVISIONAL, variable(0));
+    let long = filled(noted(), &[u32::MAX; 32]).levels(u32::MAX);
     vec![
         Vector::job("room-8192-is-filled", filled(i(), &[]).job_text()),
         Vector::job("room-8192-is-filled-with-long-records", long.job_text()),
+        Vector::job("room-8192-is-filled-then-denied", denied_after(noted())),
     ]
+}
+
+/// The statement 8192 times, by a counter that ends at the highest number, as the other variables
+/// have it all along; then an output of all variables, which are all marked.
+fn denied_after(statement: Part) -> String {
+    let counter = 1;
+    let step = assign(counter, binary(SUM, variable(counter), constant(1)));
+    let test = binary(DIFFERENCE, variable(counter), constant(u32::MAX));
+    let every: Vec<u32> = (0..32).collect();
+    let denied = output(SETTLED, sum_of(&every));
+    let part = sequence(while_do(test, sequence(statement, step)), denied);
+    let mut inputs = [u32::MAX; 32];
+    inputs[counter as usize] -= 8192;
+    let setting = set(part, &inputs).levels(u32::MAX).budget(u32::MAX);
+    setting.room(8192).job_text()
 }
 
 /// Random recipes, every second one as a job.

@@ -11,7 +11,7 @@ use independent::tree::Operator;
 fn whole_case() {
     let job = "budget=10\nroom=2\nlevels=2\ninputs=2\nin=7\nin=9\nrows=5\nrow=9,0,0,0\n\
                row=5,0,0,0\nrow=9,1,0,0\nrow=5,1,2,0\nrow=2,1,3,0\n";
-    let expected = "verdict=0\nplace=0\nsteps=2\nlevels=2\nmarked=1\n\
+    let expected = "verdict=0\nplace=0\nbecause=0\nsteps=2\nlevels=2\nmarked=1\n\
                     mem=7,9,0,0,0,0,0,0,0,0,0,0,0,0,0,0,0,0,0,0,0,0,0,0,0,0,0,0,0,0,0,0\n\
                     records=2\nout=0,7\nout=1,9\n";
     assert_eq!(report(job.as_bytes()), expected);
@@ -41,6 +41,9 @@ fn stated(part: &Part, given: Given, verdict: u32, steps: u32, marks: u32) -> Ra
         _ => 0,
     };
     assert_eq!(ran.place(), place);
+    if verdict != 1 {
+        assert_eq!(ran.because(), 0);
+    }
     ran
 }
 
@@ -48,14 +51,14 @@ fn stated(part: &Part, given: Given, verdict: u32, steps: u32, marks: u32) -> Ra
 fn a() {
     for v0 in [0, 1] {
         let ran = stated(&recipes::a(), inputs(&[v0]), 1, 8, 7);
-        assert_eq!(ran.records, []);
+        assert_eq!((ran.because(), ran.records), (4, vec![]));
     }
 }
 
 #[test]
 fn b() {
     let ran = stated(&recipes::b(), GIVEN, 1, 0, 1);
-    assert_eq!(ran.records, []);
+    assert_eq!((ran.because(), ran.records), (1, vec![]));
 }
 
 #[test]
@@ -94,7 +97,7 @@ fn f() {
 #[test]
 fn g() {
     let ran = stated(&recipes::g(), inputs(&[1]), 1, 1, 1);
-    assert_eq!(ran.records, []);
+    assert_eq!((ran.because(), ran.records), (0, vec![]));
     let ran = stated(&recipes::g(), inputs(&[0]), 0, 3, 1);
     assert_eq!(ran.records, []);
 }
@@ -118,10 +121,12 @@ fn i() {
     let end = End::Ended {
         verdict: Verdict::NoRoom,
         place: 1,
+        because: 0,
     };
     assert_eq!((answer.end, answer.steps, answer.records), (end, 0, 0));
     assert_eq!((marks, trace), (1, [77]));
-    stated(&recipes::b(), GIVEN.room(0), 1, 0, 1);
+    let ran = stated(&recipes::b(), GIVEN.room(0), 1, 0, 1);
+    assert_eq!(ran.because(), 1);
 }
 
 #[test]
@@ -193,9 +198,9 @@ fn k_trace_words() {
 #[test]
 fn l_to_o() {
     let given = inputs(&[1]);
-    stated(&recipes::l(), given, 1, 6, 3);
-    stated(&recipes::m(), given, 1, 4, 3);
-    stated(&recipes::n(), given, 1, 1, 1);
+    assert_eq!(stated(&recipes::l(), given, 1, 6, 3).because(), 2);
+    assert_eq!(stated(&recipes::m(), given, 1, 4, 3).because(), 0);
+    assert_eq!(stated(&recipes::n(), given, 1, 1, 1).because(), 0);
     stated(&recipes::o(), given, 0, 3, 7);
 }
 

@@ -25,18 +25,28 @@ struct Ran {
 }
 
 impl Ran {
-    fn verdict(&self) -> u32 {
+    /// Verdict, place and because.
+    fn ended(&self) -> (u32, u32, u32) {
         match self.answer.end {
-            End::Ended { verdict, .. } => verdict as u32,
+            End::Ended {
+                verdict,
+                place,
+                because,
+            } => (verdict as u32, place, because),
             End::Refused(refusal) => panic!("refused: {refusal:?}"),
         }
     }
 
+    fn verdict(&self) -> u32 {
+        self.ended().0
+    }
+
     fn place(&self) -> u32 {
-        match self.answer.end {
-            End::Ended { place, .. } => place,
-            End::Refused(refusal) => panic!("refused: {refusal:?}"),
-        }
+        self.ended().1
+    }
+
+    fn because(&self) -> u32 {
+        self.ended().2
     }
 
     fn done(&self) -> bool {

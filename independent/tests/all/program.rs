@@ -31,8 +31,9 @@ fn answers(arguments: &[&str], input: &str, text: &str) {
 #[test]
 fn report() {
     let zeros = ["0"; 32].join(",");
-    let denied =
-        format!("verdict=1\nplace=1\nsteps=0\nlevels=1\nmarked=1\nmem={zeros}\nrecords=0\n");
+    let denied = format!(
+        "verdict=1\nplace=1\nbecause=1\nsteps=0\nlevels=1\nmarked=1\nmem={zeros}\nrecords=0\n"
+    );
     answers(&[], JOB, &denied);
     answers(&[], "", "refused=7\nat=1\n");
     answers(&[], &"9".repeat(100_000), "refused=9\nat=0\n");

@@ -5,7 +5,9 @@ use independent::job::report;
 use independent::levels::{levels, levels_by, Method, Outcome};
 use independent::marks::{from_bits, within};
 use independent::random::Random;
-use independent::run::unwatched;
+use independent::recipes::{output, sequence};
+use independent::rows::{row_at, value_at};
+use independent::run::{run_told, unwatched, Ending};
 use independent::table::judge;
 use independent::vectors::Setting;
 
@@ -139,6 +141,91 @@ fn the_monitor_only_stops() {
     verdicts.are_all_common();
 }
 
+/// A recipe with an output at its end that reads more than those of random recipes do.
+fn ended_by_an_output(random: &mut Random) -> Vec<u32> {
+    let part = sequence(random.statement(2, 0), output(0, random.tall(4)));
+    lay(&part)
+}
+
+fn run_to_its_ending(words: &[u32], given: Given) -> Ending {
+    let mut trace = vec![u32::MAX; given.room * 2];
+    let Given {
+        memory,
+        marks,
+        budget,
+        ..
+    } = given;
+    run_told(words, memory, marks, budget, &mut trace, &mut |_, _| {})
+}
+
+/// A denied output is denied because of marked variables that its row reads, as the rows have
+/// it; where there is none the context was provisional. A run with another verdict has none.
+#[test]
+fn because_is_the_level_of_the_denied_row() {
+    let mut random = Random::new(10);
+    let (mut by_context, mut by_both, mut by_one, mut by_several) = (0, 0, 0, 0);
+    for _ in 0..RECIPES {
+        let words = if random.percent(50) {
+            random.recipe()
+        } else {
+            ended_by_an_output(&mut random)
+        };
+        let ending = run_to_its_ending(&words, given(&mut random));
+        let End::Ended {
+            verdict,
+            place,
+            because,
+        } = ending.answer.end
+        else {
+            panic!("a recipe is refused");
+        };
+        if verdict != Verdict::Denied {
+            assert_eq!(because, 0);
+            continue;
+        }
+        assert!(within(&from_bits(because), &from_bits(ending.marks)));
+        assert!(because != 0 || ending.context);
+        let [_, _, expression, _] = row_at(&words, place).expect("the place is a row");
+        let memory = &ending.answer.memory;
+        let valued = value_at(&words, expression, memory, ending.marks);
+        assert_eq!(valued.map(|valued| valued.level), Ok(because));
+        let count = match (because.count_ones(), ending.context) {
+            (0, _) => &mut by_context,
+            (_, true) => &mut by_both,
+            (1, false) => &mut by_one,
+            (_, false) => &mut by_several,
+        };
+        *count += 1;
+    }
+    let counts = [by_context, by_both, by_one, by_several];
+    assert!(
+        counts.iter().all(|count| count * 100 > RECIPES),
+        "{counts:?}"
+    );
+}
+
+/// A marked variable that no row names changes nothing, but that it stays marked.
+#[test]
+fn marks_of_other_variables_do_not_matter() {
+    let mut random = Random::new(13);
+    let mut denied = 0;
+    for _ in 0..RECIPES / 4 {
+        let words = random.recipe();
+        let given = given(&mut random);
+        // Random recipes name the lowest variables alone.
+        let (few, many) = (given.marks & 0xFFFF, given.marks | 0xFFFF_0000);
+        let (one, other) = (
+            run_words(&words, given.marks(few)),
+            run_words(&words, given.marks(many)),
+        );
+        assert_eq!(one.answer, other.answer);
+        assert_eq!(one.marks | 0xFFFF_0000, other.marks);
+        assert_eq!(one.records, other.records);
+        denied += usize::from(one.verdict() == Verdict::Denied as u32);
+    }
+    assert!(denied * 10 > RECIPES / 4, "{denied}");
+}
+
 /// A smaller budget or room gives the beginning of the same run.
 #[test]
 fn less_is_the_beginning() {
@@ -207,6 +294,7 @@ fn order_of_rows_does_not_matter() {
         let given = given(&mut random);
         let (one, other) = (run_words(&words, given), run_words(&moved, given));
         assert_eq!(one.verdict(), other.verdict());
+        assert_eq!(one.because(), other.because());
         assert_eq!(one.answer.steps, other.answer.steps);
         assert_eq!((one.marks, one.records), (other.marks, other.records));
         let (one, other) = (levels(&words, given.marks), levels(&moved, given.marks));

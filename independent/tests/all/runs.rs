@@ -69,6 +69,87 @@ fn either_side_of_an_expression() {
     }
 }
 
+/// "An expression's level is now the set of marked variables that it reads": no settled one,
+/// and none that it does not read.
+#[test]
+fn because_of_what_the_output_reads() {
+    let because = |variables: &[u32], marks: u32| {
+        let ran = run_part(&output(0, sum_of(variables)), GIVEN.marks(marks));
+        (ran.verdict(), ran.because())
+    };
+    assert_eq!(because(&[3], 0b1000), (1, 0b1000));
+    assert_eq!(because(&[3, 3], u32::MAX), (1, 0b1000));
+    assert_eq!(because(&[3, 1], u32::MAX), (1, 0b1010));
+    assert_eq!(because(&[0, 1, 2, 3], 0b11010), (1, 0b1010));
+    assert_eq!(because(&[0, 1, 2, 3], 0b10000), (0, 0));
+    let every: Vec<u32> = (0..32).collect();
+    assert_eq!(because(&every, u32::MAX), (1, u32::MAX));
+    for variable in every.iter() {
+        assert_eq!(because(&every, 1 << variable), (1, 1 << variable));
+        assert_eq!(because(&[*variable], u32::MAX), (1, 1 << variable));
+    }
+}
+
+/// By the marks where the run stops: what assignments and closes have marked by then, and not
+/// what they have unmarked.
+#[test]
+fn because_by_the_marks_at_the_stop() {
+    let because = |before: Part, variables: &[u32], marks: u32| {
+        let part = sequence(before, output(0, sum_of(variables)));
+        let ran = run_part(&part, inputs(&[1]).marks(marks));
+        (ran.verdict(), ran.because())
+    };
+    let one = |variable: u32| assign(variable, constant(1));
+    assert_eq!(because(assign(1, variable(0)), &[1], 1), (1, 2));
+    assert_eq!(because(one(0), &[0, 1], 3), (1, 2));
+    assert_eq!(because(one(0), &[0], 3), (0, 0));
+    let not_taken = if_else(variable(0), skip(), one(1));
+    assert_eq!(because(not_taken, &[1, 2], 1), (1, 2));
+    assert_eq!(because(while_do(variable(1), one(2)), &[2, 3], 2), (1, 4));
+    // What ran before, and what other outputs read, is not what this one reads.
+    assert_eq!(because(output(1, variable(1)), &[0], 3), (1, 1));
+    assert_eq!(because(assign(2, variable(1)), &[0], 3), (1, 1));
+}
+
+/// "0 when only the context was provisional"; where both are, the expression's level alone.
+#[test]
+fn because_in_a_provisional_context() {
+    let because = |taken: Part, otherwise: Part, marks: u32| {
+        let part = if_else(variable(0), taken, otherwise);
+        let ran = run_part(&part, inputs(&[1]).marks(marks));
+        (ran.verdict(), ran.because())
+    };
+    let told = |variables: &[u32]| output(0, sum_of(variables));
+    let one = |variable: u32| assign(variable, constant(1));
+    assert_eq!(because(i(), one(1), 1), (1, 0));
+    assert_eq!(because(told(&[1, 2]), skip(), 1), (1, 0));
+    // What is still in the pile is not marked yet.
+    assert_eq!(because(told(&[1, 2]), one(1), 1), (1, 0));
+    assert_eq!(because(told(&[1, 2]), one(3), 5), (1, 4));
+    assert_eq!(because(told(&[0, 1]), one(3), 5), (1, 1));
+    assert_eq!(because(sequence(one(1), told(&[1])), skip(), 1), (1, 2));
+}
+
+/// "and 0 otherwise": budget and room come to an end where an output reads marked variables.
+#[test]
+fn because_of_no_other_verdict() {
+    let ends = |part: &Part, budget: u32, room: usize| {
+        let given = GIVEN.marks(u32::MAX).budget(budget).room(room);
+        let ran = run_part(part, given);
+        (ran.verdict(), ran.because())
+    };
+    let noted = output(1, variable(0));
+    assert_eq!(ends(&noted, 1, 1), (0, 0));
+    assert_eq!(ends(&noted, 1, 0), (3, 0));
+    assert_eq!(ends(&noted, 0, 1), (2, 0));
+    assert_eq!(ends(&b(), 0, 1), (2, 0));
+    assert_eq!(ends(&b(), 1, 0), (1, 1));
+    let settled = run_part(&output(0, variable(1)), GIVEN.room(0));
+    assert_eq!((settled.verdict(), settled.because()), (3, 0));
+    let before = run_part(&sequence(noted, b()), GIVEN.room(0));
+    assert_eq!((before.verdict(), before.because()), (3, 0));
+}
+
 /// "Unmarking inside a provisional branch because the right side is a constant."
 #[test]
 fn no_unmarking_in_a_provisional_branch() {
@@ -197,8 +278,12 @@ fn without_the_monitor() {
         let mut trace = [9; 2];
         let answer = unwatched(&lay(part), given.memory, given.budget, &mut trace);
         let verdict = match answer.end {
-            End::Ended { verdict, .. } => verdict as u32,
-            End::Refused(refusal) => panic!("refused: {refusal:?}"),
+            End::Ended {
+                verdict,
+                because: 0,
+                ..
+            } => verdict as u32,
+            other => panic!("no end of an unwatched run: {other:?}"),
         };
         (verdict, answer.steps, trace)
     };
@@ -225,6 +310,7 @@ fn order_of_rows() {
                 run_words(&other, inputs(&[v0])),
             );
             assert_eq!(one.verdict(), other.verdict());
+            assert_eq!(one.because(), other.because());
             assert_eq!(one.answer.steps, other.answer.steps);
             assert_eq!((one.marks, one.records), (other.marks, other.records));
         }

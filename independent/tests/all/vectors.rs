@@ -33,6 +33,11 @@ fn every_answer_is_given() {
         assert!(with_line(&vectors, Form::Job, &line) >= 10, "{line}");
         assert!(with_line(&vectors, Form::Case, &line) >= 10, "{line}");
     }
+    for because in [0, 1, 2, 4, 10, 1 << 31, u32::MAX] {
+        let line = format!("because={because}");
+        assert!(with_line(&vectors, Form::Job, &line) >= 1, "{line}");
+        assert!(with_line(&vectors, Form::Case, &line) >= 1, "{line}");
+    }
     for number in [1, 2, 3, 4, 5, 7, 8, 9] {
         let line = format!("refused={number}");
         assert!(with_line(&vectors, Form::Job, &line) >= 1, "{line}");
@@ -47,6 +52,28 @@ fn every_answer_is_given() {
     for number in [0, 5, 9, 10, 11, 12, 13] {
         let line = format!("refused={number}");
         assert!(with_line(&vectors, Form::Text, &line) >= 5, "{line}");
+    }
+}
+
+/// "The report gains `because=` after `place=`"; what is refused has none.
+#[test]
+fn because_stands_after_place() {
+    let runs = all().into_iter().map(|vector| vector.expected());
+    let keys = |text: &str| -> Vec<String> {
+        let keys = text.lines().filter_map(|line| line.split_once('='));
+        keys.map(|(key, _)| key.to_string()).collect()
+    };
+    for text in runs {
+        let keys = keys(&text);
+        let told = keys.iter().filter(|key| *key == "because").count();
+        if keys[0] == "verdict" {
+            assert_eq!(
+                (told, &keys[1..3]),
+                (1, &["place", "because"].map(String::from)[..])
+            );
+        } else {
+            assert_eq!(told, 0);
+        }
     }
 }
 
