@@ -236,11 +236,15 @@ fn independent_run(case: &Case, given: &Given, left: &mut Left) {
         &mut left.trace,
     );
     variables.copy_from_slice(&answer.memory);
-    let [refusal, verdict, row] = match answer.end {
-        run::End::Refused(refusal) => [refusal.number, 0, refusal.at],
-        run::End::Ended { verdict, place } => [0, verdict as u32, place],
+    let [refusal, verdict, row, because] = match answer.end {
+        run::End::Refused(refusal) => [refusal.number, 0, refusal.at, 0],
+        run::End::Ended {
+            verdict,
+            place,
+            because,
+        } => [0, verdict as u32, place, because],
     };
-    let records = answer.records as u32;
-    let words: [u32; RUN_WORDS] = [refusal, verdict, row, answer.steps, records, marks];
+    let (steps, records) = (answer.steps, answer.records as u32);
+    let words: [u32; RUN_WORDS] = [refusal, verdict, row, steps, records, marks, because];
     lay(&mut left.answer, &words);
 }

@@ -40,9 +40,9 @@ impl Question {
         match self {
             Question::Judge => &["refusal", "verdict", "row"],
             Question::Check => &["refusal", "verdict", "row", "marks"],
-            Question::Run(_) | Question::Pair(..) => {
-                &["refusal", "verdict", "row", "steps", "records", "marks"]
-            }
+            Question::Run(_) | Question::Pair(..) => &[
+                "refusal", "verdict", "row", "steps", "records", "marks", "because",
+            ],
             Question::Read(_) => &[
                 "refusal", "verdict", "row", "rows", "start", "length", "marks",
             ],

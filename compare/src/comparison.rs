@@ -4,7 +4,7 @@
 use buzorinde::{CHECK_WORDS, JUDGE_WORDS, RUN_WORDS};
 use independent::marks::VARIABLES;
 use independent::random::Random;
-use independent::run::{run_told, Verdict, MOST_TRACE_WORDS, RECORD_WORDS};
+use independent::run::{self, run_told, Ending, Verdict, MOST_TRACE_WORDS, RECORD_WORDS};
 use independent::table::{ROW_WORDS, WHILE};
 use independent::tree::{Expression, Memory};
 
@@ -164,7 +164,7 @@ impl OnTable<'_> {
         };
         let end = self.run(&whole)?.end();
         self.count_loops(&end);
-        self.count_quotients(&whole);
+        self.count_told(&whole);
         let mut known = (whole.clone(), end);
         for _ in 0..6 {
             let given = self.around(&known.0, &known.1);
@@ -297,8 +297,9 @@ impl OnTable<'_> {
             .count_if(looped && end.verdict == SPENT, Kind::LoopEndless);
     }
 
-    /// Quotients by 0 that the run takes.
-    fn count_quotients(&mut self, given: &Given) {
+    /// What the answer does not say of a run: the quotients by 0 that it takes, and whether the
+    /// context was provisional where it is stopped.
+    fn count_told(&mut self, given: &Given) {
         let memory = std::array::from_fn(|variable| given.memory[variable]);
         let mut trace = vec![0; given.trace_words];
         let (mut of_zero, mut of_another) = (false, false);
@@ -307,7 +308,7 @@ impl OnTable<'_> {
             of_zero |= dividends.contains(&0);
             of_another |= dividends.iter().any(|dividend| *dividend != 0);
         };
-        run_told(
+        let ending = run_told(
             &self.words,
             memory,
             self.marks,
@@ -317,6 +318,7 @@ impl OnTable<'_> {
         );
         self.tally.count_if(of_zero, Kind::ZeroByZero);
         self.tally.count_if(of_another, Kind::OtherByZero);
+        count_spoiled(self.tally, &ending);
     }
 
     /// Budgets around the known end of a run.
@@ -345,6 +347,24 @@ impl OnTable<'_> {
         }
         tally.count_if(budget == 0, Kind::NoBudget);
     }
+}
+
+/// What is provisional where a run is stopped: the expression, the context, or both.
+fn count_spoiled(tally: &mut Tally, ending: &Ending) {
+    let run::End::Ended {
+        verdict: Verdict::Denied,
+        because,
+        ..
+    } = ending.answer.end
+    else {
+        return;
+    };
+    tally.count(match (because.count_ones(), ending.context) {
+        (0, _) => Kind::SpoiledByContext,
+        (1, false) => Kind::SpoiledByOne,
+        (_, false) => Kind::SpoiledBySeveral,
+        (_, true) => Kind::SpoiledByBoth,
+    });
 }
 
 fn count_end(tally: &mut Tally, given: &Given, end: &End) {

@@ -63,6 +63,11 @@ kinds! {
     // What a run computes.
     ZeroByZero "run with a quotient of 0 by 0",
     OtherByZero "run with a quotient of another number by 0",
+    // What is provisional where a run is stopped.
+    SpoiledByOne "stopped by one variable in a settled context",
+    SpoiledBySeveral "stopped by several variables in a settled context",
+    SpoiledByContext "stopped by the context alone",
+    SpoiledByBoth "stopped by the expression and the context",
     // How a run ends.
     LoopEnds "run with a loop that ends",
     LoopEndless "run with a loop that goes on to a large budget",
