@@ -33,8 +33,8 @@ wholeText =
     -- row=2,1,3,0
     114 ∷ 111 ∷ 119 ∷ 61 ∷ 50 ∷ 44 ∷ 49 ∷ 44 ∷ 51 ∷ 44 ∷ 48 ∷ 10 ∷ []
 
--- 12.13: .. has the report of verdict 0, place 0, 2 steps, mark set 2 with 1 variable marked, the inputs in memory and the
--- rest 0, and the 2 records `0,7` and `1,9`.
+-- 12.13: .. has the report of verdict 0, place 0, because 0, 2 steps, mark set 2 with 1 variable marked, the inputs in
+-- memory and the rest 0, and the 2 records `0,7` and `1,9`.
 abbrev wholeReport : List ℕ
 wholeReport =
     -- verdict=0
