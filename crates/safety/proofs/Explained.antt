@@ -16,13 +16,16 @@ in-settled : (channel : Bool) (x y : Bool) → (channel && (x || y)) ≡ true �
 in-settled true x y denied settled = sym (or-false x) ∙ ap (λ (b : Bool). x || b) (sym settled) ∙ denied
 in-settled false x y denied settled = absurd (true≢false (sym denied))
 
-explained : (σ : State) (because : ℕ) → Spoiled σ because → Explains because σ
-explained σ because (spoiled channel e denied same) = record {
-  some = λ settled.
-      ap provisional same ∙ in-settled (eqb channel 0) (provisional (level (σ .marks) e)) (context (σ .pile)) denied settled;
-  all-marked = subst (λ (set : ℕ). set ⊆ σ .marks) (sym same) (level-within (σ .marks) e);
-}
+some-spoiled : (σ : State) (because : ℕ) → Spoiled σ because → context (σ .pile) ≡ false → provisional because ≡ true
+some-spoiled σ because (spoiled channel e denied same) settled =
+    ap provisional same
+    ∙ in-settled (eqb channel 0) (provisional (level (σ .marks) e)) (context (σ .pile)) denied settled
+
+spoiled-marked : (σ : State) (because : ℕ) → Spoiled σ because → because ⊆ σ .marks
+spoiled-marked σ because (spoiled channel e denied same) =
+    subst (λ (set : ℕ). set ⊆ σ .marks) (sym same) (level-within (σ .marks) e)
 
 pub stops-are-explained : StopsAreExplained
 stops-are-explained terms budget σ row because stopped =
-    explained (run terms budget σ .state) because (stopped-spoiled terms row because budget σ stopped)
+    let at = stopped-spoiled terms row because budget σ stopped in
+    record { some = some-spoiled _ because at; all-marked = spoiled-marked _ because at }
