@@ -1,4 +1,6 @@
 // Reads the decimal number at a place of a text.
+#![tactic(auto)]
+
 ghost use Rattle.std.specs.Prelude.{◌≡◌, true, ◌+◌, ◌-◌, ◌*◌, ◌≤◌, min, length, drop};
 ghost use Rattle.lines.specs.Numbers.{zero_byte, beyond, is_digit, digits_on, number_at};
 ghost use Rattle.numbers.specs.Read.{field_said, next_of};

@@ -1,4 +1,6 @@
 // Writes a report. Every function here that puts bytes takes the buffer and a place, and answers the place after them.
+#![tactic(auto)]
+
 ghost use Rattle.std.specs.Prelude.{◌≡◌, ◌+◌, ◌-◌, ◌*◌, ◌≤◌, ◌<◌, length, drop, replicate};
 ghost use Rattle.rules.specs.Limits.{width, record_words};
 ghost use Rattle.lines.specs.Numbers.{decimal};

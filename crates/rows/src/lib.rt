@@ -1,4 +1,6 @@
 // The rows of a table of words.
+#![tactic(auto)]
+
 ghost use Rattle.std.specs.Prelude.{◌≡◌, ◌<◌, ltb, length};
 ghost use Rattle.rules.specs.Rows.{kind_of, rows_of, row_at};
 

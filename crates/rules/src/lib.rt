@@ -23,7 +23,7 @@ pub const MOST_NESTING: u8 = 8;
 pub type Marks = u32;
 
 // What a row is, by its first word. Unknown is any number that the table of kinds does not have.
-#[derive(Drop)]
+#[derive(Clone, Copy)]
 pub enum Kind {
     Skip,
     Assign,
@@ -39,7 +39,7 @@ pub enum Kind {
 
 // What a word p, q or r is.
 // 2.3: What p, q and r are is fixed by the kind; where nothing stands the word has no name.
-#[derive(Drop)]
+#[derive(Clone, Copy)]
 pub enum Role {
     Unnamed,
     Variable,
@@ -51,14 +51,14 @@ pub enum Role {
 }
 
 // What each of the three words of a row is.
-#[derive(Drop)]
+#[derive(Clone, Copy)]
 pub struct Roles {
     pub p: Role,
     pub q: Role,
     pub r: Role,
 }
 
-#[derive(Drop)]
+#[derive(Clone, Copy)]
 pub enum Operator {
     Sum,
     Difference,
@@ -69,7 +69,7 @@ pub enum Operator {
 }
 
 // 2.1: A table is a list of words, and each four of them are a row: its kind, and then p, q and r.
-#[derive(Drop)]
+#[derive(Clone, Copy)]
 pub struct Row {
     pub kind: Kind,
     pub p: u32,
@@ -78,7 +78,7 @@ pub struct Row {
 }
 
 // How deep the tree of a row is: its height as an expression, its nesting and loop nesting as a statement.
-#[derive(Drop)]
+#[derive(Clone, Copy)]
 pub struct Depth {
     pub height: u8,
     pub nesting: u8,
@@ -86,13 +86,13 @@ pub struct Depth {
 }
 
 // 1.2: .. a memory holds a value for each of them.
-#[derive(Drop)]
+#[derive(Clone, Copy)]
 pub struct Memory {
     pub words: [u32; VARIABLES],
 }
 
 // What the judge answers of a table.
-#[derive(Drop)]
+#[derive(Clone, Copy)]
 pub enum Judged {
     Accepted,
     Refused { number: u32, row: u32 },
@@ -100,7 +100,7 @@ pub enum Judged {
 
 // How a run ended: done, stopped by the monitor at an output's row because of some variables, with its budget used up, or at
 // an output's row without room; or refused.
-#[derive(Drop)]
+#[derive(Clone, Copy)]
 pub enum Ended {
     Done,
     Stopped { row: u32, because: Marks },
@@ -110,7 +110,7 @@ pub enum Ended {
 }
 
 // What a run answers. Its records are the first words of the trace.
-#[derive(Drop)]
+#[derive(Clone, Copy)]
 pub struct Answer {
     pub ended: Ended,
     pub steps: u32,
@@ -120,7 +120,7 @@ pub struct Answer {
 }
 
 // What the level check says of a table.
-#[derive(Drop)]
+#[derive(Clone, Copy)]
 pub enum Checked {
     Pass,
     Fail(u32),
@@ -128,7 +128,7 @@ pub enum Checked {
 }
 
 // What the level check answers: its word, and the final marks.
-#[derive(Drop)]
+#[derive(Clone, Copy)]
 pub struct Advice {
     pub checked: Checked,
     pub marks: Marks,

@@ -1,4 +1,6 @@
 // The words of a text. Every function takes the whole text and a place in it.
+#![tactic(auto)]
+
 ghost use Rattle.std.specs.Prelude.{false, ◌≡◌, ◌≤◌, ◌<◌, min, length, get_or, drop};
 ghost use Rattle.language.specs.Words.{is_blank, is_joining, joins};
 ghost use Rattle.language.specs.Tokens.{same};

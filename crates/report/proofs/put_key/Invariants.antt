@@ -1,0 +1,15 @@
+-- `report::put_key` meets its contract. The loop's invariant: what is left of the key leads to the whole key in its place.
+-- Assumes nothing.
+use Prim.Native.Nat.{◌+◌, ◌-◌, ◌≤◌}
+use mathlib.Core.Path.{◌≡◌, refl}
+use lib.ListN.{length, drop, length-set}
+use Rattle.report.proofs.WriteLaws.{Leads, leads_start, leads_byte, leads_bytes}
+use native.Mathlib.Omega.{arith}
+use borrow.Author.Rules.{rules}
+use Rattle.report.proofs.put_key.Given as goal
+
+abbrev pub invariant-loop-j : goal.invariant-loop-j
+invariant-loop-j l = (l.i ≡ l.at + l.j) × (l.j ≤ length l.key) × (length l.out ≡ length l.initial.out) × Leads l.out l.i (drop l.j l.key) l.initial.out l.at l.key
+
+abbrev pub decreases-loop-j : goal.decreases-loop-j
+decreases-loop-j l = length l.key - l.j

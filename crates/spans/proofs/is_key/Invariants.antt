@@ -1,0 +1,16 @@
+-- `spans::is_key` meets its contract. The loop's invariant: what is left of the key is what is left of the word where the key
+-- is the word. Assumes nothing.
+use Prim.Native.Nat.{◌-◌}
+use native.Mathlib.Omega.{arith}
+use mathlib.Core.Path.{◌≡◌, refl, ◌∙◌}
+use lib.ListN.{length, drop}
+use borrow.Author.Rules.{rules}
+use Rattle.language.specs.Tokens.{same}
+use Rattle.spans.proofs.WordLaws.{same_again, same_differs, same_end, same_lengths}
+use Rattle.spans.proofs.is_key.Given as goal
+
+abbrev pub invariant-loop-i : goal.invariant-loop-i
+invariant-loop-i l = same (drop l.i l.key) (drop l.i l.word) ≡ same l.key l.word
+
+abbrev pub decreases-loop-i : goal.decreases-loop-i
+decreases-loop-i l = length l.key - l.i
