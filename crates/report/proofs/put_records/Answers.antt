@@ -23,7 +23,7 @@ loop-i-preserved c =
     (
       omega (arith, c.loop-i-test.true),
       omega (arith, c.loop-i.invariant.1, c.put_record-at.ensures.place, c.put_record-at.ensures.few),
-      c.put_record-at.auto.0 ∙ c.loop-i.invariant.2,
+      c.put_record-at.auto.out ∙ c.loop-i.invariant.2,
       records_again c.args.records c.args.trace.now c.loop-i.i c.requires.0 c.loop-i-test.true c.loop-i.invariant.3 c.put_record-at.ensures,
     )
 

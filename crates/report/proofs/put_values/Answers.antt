@@ -25,7 +25,7 @@ loop-i-preserved c =
       omega (arith, c.loop-i.invariant.0),
       omega (arith, c.loop-i-test.true),
       omega (arith, c.loop-i.invariant.0, c.loop-i.invariant.2, c.put_value-at.ensures.place, c.put_value-at.ensures.few),
-      c.put_value-at.auto.0 ∙ c.loop-i.invariant.3,
+      c.put_value-at.auto.out ∙ c.loop-i.invariant.3,
       values_again args.values.now c.loop-i.i c.requires.0 c.loop-i-test.true c.loop-i.invariant.4 c.put_value-at.ensures,
     )
 

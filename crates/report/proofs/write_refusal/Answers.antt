@@ -15,5 +15,5 @@ pub returns : goal.returns
 unfolding refusal_written
 returns c =
     let args = c.args in
-    written_whole most_refusal (refusal_text args.number args.at) args.out.now c.put_line.result c.put_line.new.0
+    written_whole most_refusal (refusal_text args.number args.at) args.out.now c.put_line.result c.put_line.new.out
     c.if-out-lt-REFUSAL_BYTES.false (placed_refusal args.number args.at c.put_line-after_number.ensures c.put_line.ensures)
