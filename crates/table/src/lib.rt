@@ -1,4 +1,6 @@
 // The judge of a table.
+#![tactic(auto)]
+
 ghost use Rattle.std.specs.Prelude.{◌≡◌};
 ghost use Rattle.rules.specs.Judging.{wrong_count};
 ghost use Rattle.rules.specs.Answers.{JudgeAnswers};

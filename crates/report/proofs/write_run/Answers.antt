@@ -23,6 +23,6 @@ pub returns : goal.returns
 returns c =
     let args = c.args in
     let text = run_text args.verdict args.place args.because (whole_of args.answer args.trace.now) in
-    written_whole (most_run args.answer.records) text args.out.now c.put_run.result c.put_run.new.out.1.1.1.1.0 c.if-out-records.false
+    written_whole (most_run args.answer.records) text args.out.now c.put_run.result c.put_run.new.out c.if-out-records.false
     c.put_run.ensures
     ∙ run_counted args.answer.records text args.trace.now args.out.now c.if-trace-records.false

@@ -1,0 +1,21 @@
+-- `table::parents::judge_parents` meets its contract: what is left to search gives the same answer as the whole.
+use Prim.Native.Nat.{ℕ, ◌-◌, ◌≤◌, ◌<◌}
+use native.Mathlib.Omega.{arith}
+use mathlib.Core.Path.{◌≡◌, refl, sym, ap, ◌∙◌}
+use lib.ListN.{length, get_or, replicate, get_or-replicate}
+use Rattle.rules.specs.Limits.{most_rows}
+use Rattle.rules.specs.Rows.{rows_of}
+use Rattle.rules.specs.Judging.{children, places, wrong_parents, lowest}
+use Rattle.rules.proofs.JudgeLaws.{lowest_step, lowest_found, lowest_end}
+use Rattle.table.specs.Parents.{SameCount}
+use Rattle.table.specs.Refused.{refused_parents}
+use Rattle.table.proofs.parents.judge_parents.Given as goal
+
+abbrev pub invariant-loop-i : goal.invariant-loop-i
+invariant-loop-i l =
+    (l.i ≤ l.rows)
+    × (lowest 4 (wrong_parents (rows_of l.table) (children (rows_of l.table))) l.i (l.rows - l.i) ≡ refused_parents (rows_of l.table))
+    × ((j : ℕ) → j < most_rows → SameCount (get_or l.parents j 0) (places j (children (rows_of l.table))))
+
+abbrev pub decreases-loop-i : goal.decreases-loop-i
+decreases-loop-i l = l.rows - l.i
