@@ -80,8 +80,8 @@ fn place(word: u32) -> usize
 
 // Refusal 5 at the lowest row to which it applies, of rows to which neither 2 nor 3 applies.
 pub fn judge_depths(table: &[u32], rows: u32) -> Judged
-    requires rows_le_most_rows { (rows ≤ most_rows) × (rows ≡ length (rows_of table.now)) }
-    requires table_value { (refused_words (rows_of table.now) ≡ Judged.Accepted)
+    requires counted { (rows ≤ most_rows) × (rows ≡ length (rows_of table.now)) }
+    requires accepted { (refused_words (rows_of table.now) ≡ Judged.Accepted)
         × (refused_children (rows_of table.now) ≡ Judged.Accepted) }
     ensures { result ≡ refused_depths (rows_of table.now) }
 {

@@ -1,4 +1,4 @@
--- `job::read_inputs` meets its contract; t3 is the checker's name for the numbers of the head. Assumes nothing.
+-- `job::read_inputs` meets its contract. Assumes nothing.
 use mathlib.Core.Path.{sym, ap, ◌∙◌}
 use lib.ListN.{take, drop}
 use Rattle.rules.specs.Limits.{width}
@@ -12,7 +12,7 @@ pub read_table-requires : goal.read_table-requires
 read_table-requires c =
     let words = c.fill_numbers-lines.new.words in
     let filled = c.fill_numbers-lines.ensures in
-    (c.requires, filled_front width (inputs_of c.args.t3) words c.requires filled.same filled.kept)
+    (c.requires, filled_front width (inputs_of c.args.numbers) words c.requires filled.same filled.kept)
 
 pub returns-in-Faulty : goal.returns-in-Faulty
 unfolding read_inputs
@@ -22,7 +22,7 @@ returns-in-Faulty c =
     c.refused.ensures
     ∙ ap reading
     (many_broken _ _ c.in-Faulty.number c.in-Faulty.line
-    (ap (lines_said args.text.now (inputs_of args.t3) words) (sym c.in-Faulty.is) ∙ c.fill_numbers-lines.ensures.said))
+    (ap (lines_said args.text.now (inputs_of args.numbers) words) (sym c.in-Faulty.is) ∙ c.fill_numbers-lines.ensures.said))
 
 pub returns-in-Next : goal.returns-in-Next
 unfolding read_inputs
@@ -32,5 +32,5 @@ returns-in-Next c =
     let words = c.fill_numbers-lines.new.words in
     c.read_table.ensures
     ∙ ap reading
-    (many_told _ _ (take (inputs_of args.t3) words) (drop c.in-Next.next text)
-    (ap (lines_said text (inputs_of args.t3) words) (sym c.in-Next.is) ∙ c.fill_numbers-lines.ensures.said))
+    (many_told _ _ (take (inputs_of args.numbers) words) (drop c.in-Next.next text)
+    (ap (lines_said text (inputs_of args.numbers) words) (sym c.in-Next.is) ∙ c.fill_numbers-lines.ensures.said))

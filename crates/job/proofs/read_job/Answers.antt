@@ -5,6 +5,7 @@ use mathlib.Core.Path.{◌≡◌, refl, sym, ap, ◌∙◌}
 use lib.ListN.{length, drop}
 use lib.Seq.{take_all}
 use Rattle.lines.specs.Lines.{lines}
+use Rattle.job.specs.declared.Lines.{Lines}
 use Rattle.job.specs.Jobs.{head, form_at, number_lines, read_lines}
 use Rattle.job.specs.Read.{lines_said, reading}
 use Rattle.job.proofs.JobLaws.{within_at, many_broken, many_told, job_long, job_sized}
@@ -14,19 +15,13 @@ use borrow.Author.Rules.{rules}
 use Rattle.job.proofs.read_job.Goals as goal
 
 -- the head was read: its numbers, and the text after it
-module _ (c : tie.After-lines2) where
-  abbrev text : List ℕ
-  text = c.before.before.before.before.before.before.before.args.text.now
-
-  abbrev numbers : List ℕ
-  numbers = c.before.before.before.fill-numbers.new.1.1.1.1.0
-
-  head_read : lines numbers (drop c.lines2.given.0.0 text) ≡ number_lines (length head) 1 [] text
-  head_read =
-      let filled = c.before.before.before.fill-numbers.ensures in
-      ap (λ (l : List ℕ). lines l (drop c.lines2.given.0.0 text)) (sym (take_all (length head) numbers (omega (arith, filled.same))))
-      ∙ ap (lines_said text (length head) numbers) (sym c.lines2.given.1)
-      ∙ filled.said
+head_read : (text numbers : List ℕ) (next : ℕ) (l : Lines) → length numbers ≡ length head → l ≡ Lines.Next next
+    → lines_said text (length head) numbers l ≡ number_lines (length head) 1 [] text
+    → lines numbers (drop next text) ≡ number_lines (length head) 1 [] text
+head_read text numbers next l same is said =
+    ap (λ (l : List ℕ). lines l (drop next text)) (sym (take_all (length head) numbers (omega arith)))
+    ∙ ap (lines_said text (length head) numbers) (sym is)
+    ∙ said
 
 pub returns-then-text-gt-MOST_BYTES : goal.returns-then-text-gt-MOST_BYTES
 returns-then-text-gt-MOST_BYTES c = c.refused.ensures ∙ ap reading (job_long c.args.text.now c.if-text-gt-MOST_BYTES.true)
@@ -34,7 +29,7 @@ returns-then-text-gt-MOST_BYTES c = c.refused.ensures ∙ ap reading (job_long c
 pub read_inputs-requires : goal.read_inputs-requires
 unfolding form_at
 read_inputs-requires c =
-    within_at (numbers c) 1 3 4 (numbers_within (length head) 1 (text c) (numbers c) _ (head_read c)) refl
+    within_at c.fill_numbers-lines.new.words 1 3 4 (numbers_within (length head) 1 c.args.text.now c.fill_numbers-lines.new.words _ (head_read c.args.text.now c.fill_numbers-lines.new.words c.in-Next.next c.fill_numbers-lines.result c.fill_numbers-lines.ensures.same c.in-Next.is c.fill_numbers-lines.ensures.said)) refl
 
 pub returns-in-Faulty : goal.returns-in-Faulty
 unfolding read_lines
@@ -51,4 +46,4 @@ pub returns-in-Next : goal.returns-in-Next
 unfolding read_lines
 returns-in-Next c =
     c.read_inputs.ensures
-    ∙ ap reading (many_told _ _ (numbers c) _ (head_read c) ∙ job_sized (text c) c.if-text-gt-MOST_BYTES.false)
+    ∙ ap reading (many_told _ _ c.fill_numbers-lines.new.words _ (head_read c.args.text.now c.fill_numbers-lines.new.words c.in-Next.next c.fill_numbers-lines.result c.fill_numbers-lines.ensures.same c.in-Next.is c.fill_numbers-lines.ensures.said) ∙ job_sized c.args.text.now c.if-text-gt-MOST_BYTES.false)

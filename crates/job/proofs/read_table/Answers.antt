@@ -1,4 +1,4 @@
--- `job::read_table` meets its contract; t3 is the checker's name for the numbers of the head. Assumes nothing.
+-- `job::read_table` meets its contract. Assumes nothing.
 use Prim.Native.Nat.{◌+◌, ◌*◌}
 use mathlib.Core.List.{[], ◌∷◌}
 use mathlib.Core.Path.{refl, sym, ap, ◌∙◌}
@@ -38,7 +38,7 @@ returns-then-end-text c =
     let words = c.fill_rows-rows.new.words in
     c.refused-then-end-text.ensures
     ∙ ap reading
-    (table_further (first_input + inputs_of args.t3) args.t3 (take (inputs_of args.t3) args.memory.words) (drop args.at text) c.in-Number.value (6 + inputs_of args.t3) (drop c.in-Number.next text) (ap (line_said text) (sym c.in-Number.is) ∙ c.read_line-count.ensures) (omega arith) (take (row_words * c.in-Number.value) words) text c.in-Next.end
+    (table_further (first_input + inputs_of args.numbers) args.numbers (take (inputs_of args.numbers) args.memory.words) (drop args.at text) c.in-Number.value (6 + inputs_of args.numbers) (drop c.in-Number.next text) (ap (line_said text) (sym c.in-Number.is) ∙ c.read_line-count.ensures) (omega arith) (take (row_words * c.in-Number.value) words) text c.in-Next.end
     (ap (lines_said text (row_words * c.in-Number.value) words) (sym c.in-Next.is) ∙ c.fill_rows-rows.ensures.said) c.if-end-text.true)
 
 pub returns-in-Faulty : goal.returns-in-Faulty
@@ -46,7 +46,7 @@ returns-in-Faulty c =
     let args = c.args in
     let text = args.text.now in
     c.refused.ensures
-    ∙ ap reading (table_uncounted (first_input + inputs_of args.t3) args.t3 (take (inputs_of args.t3) args.memory.words) (drop args.at text) c.in-Faulty.number (ap (line_said text) (sym c.in-Faulty.is) ∙ c.read_line-count.ensures))
+    ∙ ap reading (table_uncounted (first_input + inputs_of args.numbers) args.numbers (take (inputs_of args.numbers) args.memory.words) (drop args.at text) c.in-Faulty.number (ap (line_said text) (sym c.in-Faulty.is) ∙ c.read_line-count.ensures))
 
 pub returns-in-Faulty-rows : goal.returns-in-Faulty-rows
 returns-in-Faulty-rows c =
@@ -54,7 +54,7 @@ returns-in-Faulty-rows c =
     let text = args.text.now in
     c.refused-in-Faulty-rows.ensures
     ∙ ap reading
-    (table_broken (first_input + inputs_of args.t3) args.t3 (take (inputs_of args.t3) args.memory.words) (drop args.at text) c.in-Number.value (6 + inputs_of args.t3) (drop c.in-Number.next text) (ap (line_said text) (sym c.in-Number.is) ∙ c.read_line-count.ensures) (omega arith) c.in-Faulty-rows.number c.in-Faulty-rows.line
+    (table_broken (first_input + inputs_of args.numbers) args.numbers (take (inputs_of args.numbers) args.memory.words) (drop args.at text) c.in-Number.value (6 + inputs_of args.numbers) (drop c.in-Number.next text) (ap (line_said text) (sym c.in-Number.is) ∙ c.read_line-count.ensures) (omega arith) c.in-Faulty-rows.number c.in-Faulty-rows.line
     (ap (lines_said text (row_words * c.in-Number.value) c.fill_rows-rows.new.words) (sym c.in-Faulty-rows.is) ∙ c.fill_rows-rows.ensures.said))
 
 pub returns-else-end-text : goal.returns-else-end-text
@@ -65,10 +65,10 @@ returns-else-end-text c =
     let within = line_within (rows_key ∷ []) most_rows c.in-Number.value (drop args.at text) (drop c.in-Number.next text) counted in
     let words = c.fill_rows-rows.new.words in
     let same = c.fill_rows-rows.ensures.same in
-    reading_told args.t3 args.memory.words words (take (inputs_of args.t3) args.memory.words)
+    reading_told args.numbers args.memory.words words (take (inputs_of args.numbers) args.memory.words)
     (take (row_words * c.in-Number.value) words) c.in-Number.value c.requires.1
     (filled_front table_words (row_words * c.in-Number.value) words (omega (arith, within)) same c.fill_rows-rows.ensures.kept)
     (rows_counted c.in-Number.value words (omega (arith, within, same)))
     ∙ ap reading
-    (table_told (first_input + inputs_of args.t3) args.t3 (take (inputs_of args.t3) args.memory.words) (drop args.at text) c.in-Number.value (6 + inputs_of args.t3) (drop c.in-Number.next text) counted (omega arith) (take (row_words * c.in-Number.value) words) text c.in-Next.end
+    (table_told (first_input + inputs_of args.numbers) args.numbers (take (inputs_of args.numbers) args.memory.words) (drop args.at text) c.in-Number.value (6 + inputs_of args.numbers) (drop c.in-Number.next text) counted (omega arith) (take (row_words * c.in-Number.value) words) text c.in-Next.end
     (ap (lines_said text (row_words * c.in-Number.value) words) (sym c.in-Next.is) ∙ c.fill_rows-rows.ensures.said) c.if-end-text.false)

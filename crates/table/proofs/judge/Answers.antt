@@ -1,5 +1,6 @@
 -- `table::judge` meets its contract: the first refusal that is given decides.
-use Prim.Native.Nat.{◌/◌, ◌≤◌}
+use Prim.Native.Nat.{ℕ, ◌/◌, ◌≤◌}
+use mathlib.Core.List.{List}
 use native.Mathlib.Omega.{arith}
 use mathlib.Core.Bool.{false}
 use mathlib.Core.Path.{◌≡◌, refl, sym, ◌∙◌}
@@ -11,17 +12,10 @@ use Rattle.rules.proofs.AnswerLaws.{judged_said}
 use borrow.Author.Rules.{rules}
 use Rattle.table.proofs.judge.Goals as goal
 
--- after refusal 1: it does not apply, and the rows are counted
-counted : (c : tie.Else1) → wrong_count c.before.before.before.args.table.now ≡ false
-counted c = sym c.before.wrong-count.ensures ∙ c.if1.false
-
-row_count :
-    (c : tie.Else1) →
-    (length c.before.before.before.args.table.now / 4 ≤ 512)
-    × (length c.before.before.before.args.table.now / 4 ≡ length (rows_of c.before.before.before.args.table.now))
-row_count c =
-    let words = c.before.before.before.args.table.now in
-    (omega (arith, rows_length words, (right_count words (counted c)).2), sym (rows_length words))
+-- where refusal 1 does not apply, the rows are counted
+counted : (words : List ℕ) → wrong_count words ≡ false
+    → (length words / 4 ≤ 512) × (length words / 4 ≡ length (rows_of words))
+counted words right = (omega (arith, rows_length words, (right_count words right).2), sym (rows_length words))
 
 pub returns-then-wrong_count : goal.returns-then-wrong_count
 returns-then-wrong_count c =
@@ -29,20 +23,20 @@ returns-then-wrong_count c =
     judged_said words (judge_count words (sym c.wrong_count.ensures ∙ c.if-wrong_count.true))
 
 pub overflow_cast-rows : goal.overflow_cast-rows
-overflow_cast-rows c = omega (arith, (row_count c).0)
+overflow_cast-rows c = omega (arith, (counted c.args.table.now (sym c.wrong_count.ensures ∙ c.if-wrong_count.false)).0)
 
 pub judge_words-words-requires : goal.judge_words-words-requires
-judge_words-words-requires c = (row_count c).1
+judge_words-words-requires c = (counted c.args.table.now (sym c.wrong_count.ensures ∙ c.if-wrong_count.false)).1
 
 pub returns-in-Refused : goal.returns-in-Refused
 returns-in-Refused c =
     let words = c.args.table.now in
     judged_said words
     (or_else_stops c.judge_words-words.result _ c.in-Refused.is
-    ∙ judge_first words _ _ _ _ (counted c) c.judge_words-words.ensures refl refl refl)
+    ∙ judge_first words _ _ _ _ (sym c.wrong_count.ensures ∙ c.if-wrong_count.false) c.judge_words-words.ensures refl refl refl)
 
 pub judge_children-children-requires : goal.judge_children-children-requires
-judge_children-children-requires c = (row_count c).1
+judge_children-children-requires c = (counted c.args.table.now (sym c.wrong_count.ensures ∙ c.if-wrong_count.false)).1
 
 pub returns-in-Refused-children : goal.returns-in-Refused-children
 returns-in-Refused-children c =
@@ -50,10 +44,10 @@ returns-in-Refused-children c =
     judged_said words
     (or_else_stops c.judge_children-children.result _ c.in-Refused-children.is
     ∙ or_else_passes c.judge_words-words.result _ c.in_default.is
-    ∙ judge_first words _ _ _ _ (counted c) c.judge_words-words.ensures c.judge_children-children.ensures refl refl)
+    ∙ judge_first words _ _ _ _ (sym c.wrong_count.ensures ∙ c.if-wrong_count.false) c.judge_words-words.ensures c.judge_children-children.ensures refl refl)
 
 pub judge_parents-parents-requires : goal.judge_parents-parents-requires
-judge_parents-parents-requires c = row_count c
+judge_parents-parents-requires c = counted c.args.table.now (sym c.wrong_count.ensures ∙ c.if-wrong_count.false)
 
 pub returns-in-Refused-parents : goal.returns-in-Refused-parents
 returns-in-Refused-parents c =
@@ -62,14 +56,14 @@ returns-in-Refused-parents c =
     (or_else_stops c.judge_parents-parents.result _ c.in-Refused-parents.is
     ∙ or_else_passes c.judge_children-children.result _ c.in_default-children.is
     ∙ or_else_passes c.judge_words-words.result _ c.in_default.is
-    ∙ judge_first words _ _ _ _ (counted c) c.judge_words-words.ensures c.judge_children-children.ensures c.judge_parents-parents.ensures refl)
+    ∙ judge_first words _ _ _ _ (sym c.wrong_count.ensures ∙ c.if-wrong_count.false) c.judge_words-words.ensures c.judge_children-children.ensures c.judge_parents-parents.ensures refl)
 
 pub judge_depths-requires : goal.judge_depths-requires
 judge_depths-requires c =
-    (
-      row_count c,
-      (sym c.judge_words-words.ensures ∙ c.in_default.is, sym c.judge_children-children.ensures ∙ c.in_default-children.is),
-    )
+    record {
+      counted = counted c.args.table.now (sym c.wrong_count.ensures ∙ c.if-wrong_count.false);
+      accepted = (sym c.judge_words-words.ensures ∙ c.in_default.is, sym c.judge_children-children.ensures ∙ c.in_default-children.is);
+    }
 
 pub returns : goal.returns
 returns c =
@@ -78,4 +72,4 @@ returns c =
     (or_else_passes c.judge_parents-parents.result _ c.in_default-parents.is
     ∙ or_else_passes c.judge_children-children.result _ c.in_default-children.is
     ∙ or_else_passes c.judge_words-words.result _ c.in_default.is
-    ∙ judge_first words _ _ _ _ (counted c) c.judge_words-words.ensures c.judge_children-children.ensures c.judge_parents-parents.ensures c.judge_depths.ensures)
+    ∙ judge_first words _ _ _ _ (sym c.wrong_count.ensures ∙ c.if-wrong_count.false) c.judge_words-words.ensures c.judge_children-children.ensures c.judge_parents-parents.ensures c.judge_depths.ensures)
