@@ -1,0 +1,7 @@
+-- `expression::values::evaluate` meets its contract.
+use mathlib.Core.Path.{◌∙◌}
+use borrow.Author.Rules.{rules}
+use Rattle.expression.proofs.values.evaluate.Goals as goal
+
+pub returns : goal.returns
+returns c = c.unpack.ensures ∙ c.evaluate_lent.ensures
