@@ -1,4 +1,6 @@
 // The static level check: whether an output of a recipe may be denied, told before the recipe runs.
+#![tactic(auto)]
+
 mod provisional;
 mod walk;
 

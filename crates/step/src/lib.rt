@@ -1,4 +1,6 @@
 // One step of a run under the monitor, on the arrays in which the run's state stands.
+#![tactic(auto)]
+
 ghost use Rattle.std.specs.Prelude.{◌≡◌, true, false, ◌<◌, ◌≤◌, length};
 ghost use Rattle.rules.specs.declared.Kind.{Kind};
 ghost use Rattle.rules.specs.Limits.{most_nesting};
