@@ -61,7 +61,7 @@ fn failing_at(
 
 // Walks a loop's body from the incoming set, adds what comes back, and walks again until nothing is added. The walk that adds
 // nothing started from the final set, so what failed in it is what fails. Each walk but the last adds a variable.
-#[cycle(walk_lent_walk_loop_walk_part)]
+#[cycle(walks)]
 fn walk_loop(
     table: &&[u32],
     pending: &mut [u16; MOST_ROWS],
@@ -97,7 +97,7 @@ fn walk_loop(
 }
 
 // Walks a statement that is no sequence, whose row was read. What it nests is walked with the array from the base on.
-#[cycle(walk_lent_walk_loop_walk_part)]
+#[cycle(walks)]
 fn walk_part(
     table: &&[u32],
     pending: &mut [u16; MOST_ROWS],
@@ -143,7 +143,7 @@ fn walk_part(
 // Walks the statement at a row, in a context, from a mark set. The parts of its sequences are taken in a loop, so that only an if
 // or a while calls anew: from the base on, `pending` has the rows that are still to be walked, the last of them next. The table's
 // slice is lent in turn, so that a call hands on an address alone.
-#[cycle(walk_lent_walk_loop_walk_part)]
+#[cycle(walks)]
 fn walk_lent(
     table: &&[u32],
     pending: &mut [u16; MOST_ROWS],

@@ -102,7 +102,7 @@ fn read_set(
 }
 
 // Reads an if after its first word.
-#[cycle(read_block_read_if_read_statement_read_while)]
+#[cycle(statements)]
 fn read_if(
     text: &[u8],
     from: usize,
@@ -149,7 +149,7 @@ fn read_if(
 }
 
 // Reads a while after its first word.
-#[cycle(read_block_read_if_read_statement_read_while)]
+#[cycle(statements)]
 fn read_while(
     text: &[u8],
     from: usize,
@@ -186,7 +186,7 @@ fn read_while(
 }
 
 // Reads the statement at a place, whose first row is to be this one.
-#[cycle(read_block_read_if_read_statement_read_while)]
+#[cycle(statements)]
 pub fn read_statement(
     text: &[u8],
     from: usize,
@@ -232,7 +232,7 @@ pub fn read_statement(
 }
 
 // Reads the block at a place: a statement, and where a semicolon follows a block after it.
-#[cycle(read_block_read_if_read_statement_read_while)]
+#[cycle(statements)]
 pub fn read_block(
     text: &[u8],
     from: usize,

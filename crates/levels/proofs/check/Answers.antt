@@ -9,29 +9,24 @@ use Rattle.rules.proofs.JudgeLaws.{accepted_sound}
 use Rattle.levels.proofs.AdviceLaws.{some_rows, few_rows, last_within, advice_found}
 use Rattle.levels.proofs.check.Goals as goal
 
--- the table is accepted
-accepted : (c : tie.After-enum-told) → judge c.before.before.before.before.args.table.now ≡ Judged.Accepted
-accepted c =
-    judged_as c.before.before.before.before.args.table.now c.before.before.judge.ensures c.enum_told.given.1
-
 pub returns-in-Refused : goal.returns-in-Refused
 returns-in-Refused c =
     let a = c.args in
     sym (advice_refused a.table.now a.marks _ _ (judged_as a.table.now c.judge-judged.ensures c.in-Refused.is))
 
 pub overflow_sub-last : goal.overflow_sub-last
-overflow_sub-last c = some_rows c.args.table.now (accepted c)
+overflow_sub-last c = some_rows c.args.table.now (judged_as c.args.table.now c.judge-judged.ensures c.in_default.is)
 
 pub overflow_cast-last : goal.overflow_cast-last
 overflow_cast-last c =
-    record { fits = omega (arith, few_rows c.args.table.now (accepted c)) }
+    record { fits = omega (arith, few_rows c.args.table.now (judged_as c.args.table.now c.judge-judged.ensures c.in_default.is)) }
 
 pub walk-found-requires : goal.walk-found-requires
 walk-found-requires c =
     let table = c.args.table.now in
-    (accepted_sound table (accepted c), last_within table (accepted c))
+    (accepted_sound table (judged_as c.args.table.now c.judge-judged.ensures c.in_default.is), last_within table (judged_as c.args.table.now c.judge-judged.ensures c.in_default.is))
 
 pub returns : goal.returns
 returns c =
     let a = c.args in
-    advice_found a.table.now (accepted c) a.marks c.walk-found.ensures c.checked_at.ensures
+    advice_found a.table.now (judged_as c.args.table.now c.judge-judged.ensures c.in_default.is) a.marks c.walk-found.ensures c.checked_at.ensures

@@ -20,16 +20,16 @@ use borrow.Fn.Kinds.{In}
 use borrow.Fn.PlainCycle.{Measures, is, falls, and}
 use Rattle.reader.proofs.statements.read_block.Reads as read-block
 use Rattle.reader.proofs.statements.read_block.Kinds as read-block-kinds
-use Rattle.reader.proofs.statements.+read_block_read_if_read_statement_read_while.Lts-read_block as read-block-lts
+use Rattle.reader.proofs.statements.+statements.Lts-read_block as read-block-lts
 use Rattle.reader.proofs.statements.read_if.Reads as read-if
 use Rattle.reader.proofs.statements.read_if.Kinds as read-if-kinds
-use Rattle.reader.proofs.statements.+read_block_read_if_read_statement_read_while.Lts-read_if as read-if-lts
+use Rattle.reader.proofs.statements.+statements.Lts-read_if as read-if-lts
 use Rattle.reader.proofs.statements.read_statement.Reads as read-statement
 use Rattle.reader.proofs.statements.read_statement.Kinds as read-statement-kinds
-use Rattle.reader.proofs.statements.+read_block_read_if_read_statement_read_while.Lts-read_statement as read-statement-lts
+use Rattle.reader.proofs.statements.+statements.Lts-read_statement as read-statement-lts
 use Rattle.reader.proofs.statements.read_while.Reads as read-while
 use Rattle.reader.proofs.statements.read_while.Kinds as read-while-kinds
-use Rattle.reader.proofs.statements.+read_block_read_if_read_statement_read_while.Lts-read_while as read-while-lts
+use Rattle.reader.proofs.statements.+statements.Lts-read_while as read-while-lts
 use Rattle.reader.proofs.expressions.read_expression.Reads as read-expression-reads
 use Rattle.reader.proofs.put.put_row.Reads as put-row-reads
 use Rattle.reader.proofs.statements.ended.Reads as ended-reads
@@ -38,8 +38,8 @@ use Rattle.reader.proofs.statements.read_output.Reads as read-output-reads
 use Rattle.reader.proofs.statements.read_set.Reads as read-set-reads
 use Rattle.reader.proofs.words.is_word.Reads as is-word-reads
 use Rattle.spans.proofs.start_at.Reads as start-at-reads
-use Rattle.reader.proofs.statements.+read_block_read_if_read_statement_read_while as cycle
-use Rattle.reader.proofs.statements.+read_block_read_if_read_statement_read_while.Tie.{
+use Rattle.reader.proofs.statements.+statements as cycle
+use Rattle.reader.proofs.statements.+statements.Tie.{
   close,
 }
 

@@ -24,8 +24,12 @@ use Rattle.levels.specs.Pending.{Room, Kept}
 use Rattle.levels.proofs.FoundLaws.{skip_left, found_assign, found_if, found_output, rests_here, goes_on, over_here}
 use Rattle.levels.proofs.PendingLaws.{kept_same, kept_on, room_on, taking, taking_part, left, UnderWay, way_start, room_here, place, within_here, second_small, way_apart, apart_less, kept_here, way_end, way_on, on_less}
 use Prim.Native.Nat.{ℕ, ◌+◌, ◌*◌, ◌<◌}
-use Rattle.levels.proofs.walk.+walk_lent_walk_loop_walk_part.Given as goal
+use Rattle.levels.proofs.walk.+walks.Given as goal
 
+abbrev turns : List Row → ℕ → ℕ → Bool → ℕ → Walked
+turns rows test body context loop = rule.walk (stmt_at rows body) (under (expr_at rows test) context loop) loop
+
+-- a part stands below the statement whose part it is, also where it is all of it; a loop between its body and its own row
 abbrev pub decreases-walk_lent : goal.decreases-walk_lent
 decreases-walk_lent l = 3 * l.row + 2
 
@@ -35,17 +39,18 @@ decreases-walk_loop l = 3 * l.body + 3
 abbrev pub decreases-walk_part : goal.decreases-walk_part
 decreases-walk_part l = 3 * l.row + 1
 
--- abbrev walk-lent-Inv-loop : walk-lent-lts.invariant-loop
--- walk-lent-Inv-loop table pending₀ base row context marks found₀ n₀ at₀ pending found n at =
---     UnderWay (rows_of table.now) context base row pending₀ (found_of (rule.walk (stmt_at (rows_of table.now) row) context marks)) pending found n at
+abbrev pub invariant-walk_lent-loop-pending : goal.invariant-walk_lent-loop-pending
+invariant-walk_lent-loop-pending l =
+    UnderWay (rows_of l.table.now) l.context l.base l.row l.initial.pending (found_of (rule.walk (stmt_at (rows_of l.table.now) l.row) l.context l.marks)) l.pending l.found l.n l.at
 
--- abbrev walk-lent-μ-loop : walk-lent-lts.decreases-loop
--- walk-lent-μ-loop table pending₀ base row context marks found₀ n₀ at₀ pending found n at = left (rows_of table.now) pending base n at
+abbrev pub decreases-walk_lent-loop-pending : goal.decreases-walk_lent-loop-pending
+decreases-walk_lent-loop-pending l = left (rows_of l.table.now) l.pending l.base l.n l.at
 
--- abbrev walk-loop-Inv-loop : walk-loop-lts.invariant-loop
--- walk-loop-Inv-loop table pending₀ base test body context marks set₀ left₀ pending set left =
---     (rounds left (turns (rows_of table.now) test body context) set ≡ rounds (width + 1) (turns (rows_of table.now) test body context) marks)
---     × Kept pending₀ pending base
+-- what is left to do gives what the whole gives
+abbrev pub invariant-walk_loop-loop-left : goal.invariant-walk_loop-loop-left
+invariant-walk_loop-loop-left l =
+    (rounds l.left (turns (rows_of l.table.now) l.test l.body l.context) l.set ≡ rounds (width + 1) (turns (rows_of l.table.now) l.test l.body l.context) l.marks)
+    × Kept l.initial.pending l.pending l.base
 
--- abbrev walk-loop-μ-loop : walk-loop-lts.decreases-loop
--- walk-loop-μ-loop table pending₀ base test body context marks set₀ left₀ pending set left = left
+abbrev pub decreases-walk_loop-loop-left : goal.decreases-walk_loop-loop-left
+decreases-walk_loop-loop-left l = l.left
