@@ -1,4 +1,6 @@
 // The run under the monitor: prepare, go on, finish.
+#![tactic(auto)]
+
 ghost use Rattle.std.specs.Prelude.{◌≡◌, ◌^◌, ◌≤◌, length};
 ghost use Rattle.rules.specs.declared.Judged.{Judged};
 ghost use Rattle.rules.specs.Limits.{word_bits};

@@ -30,7 +30,7 @@ pub enum Step {
 }
 
 // How far an expression is: the place, the rows, how many parentheses are open, and whether one of its expressions is whole there.
-#[derive(Drop)]
+#[derive(Clone, Copy)]
 pub struct Inside {
     pub at: usize,
     pub count: u32,

@@ -32,7 +32,7 @@ enum Declared {
 
 // The declarations so far: the place after them, the variables that they declare, the marks, and where the first variable stands
 // that is declared again, which is nowhere (0 to 0) where there is none.
-#[derive(Drop)]
+#[derive(Clone, Copy)]
 pub struct Seen {
     pub at: usize,
     pub declared: Marks,

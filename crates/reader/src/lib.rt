@@ -1,4 +1,6 @@
 // Reads a recipe's text into a table.
+#![tactic(auto)]
+
 mod atoms;
 mod expressions;
 mod head;

@@ -26,7 +26,7 @@ pub const SETS: usize = MOST_NESTING as usize;
 pub const ENTRIES: usize = MOST_ROWS + SETS;
 
 // How much of each array the state takes, and its marks.
-#[derive(Drop)]
+#[derive(Clone, Copy)]
 pub struct Held {
     pub pending: usize,
     pub pile: usize,

@@ -1,0 +1,15 @@
+-- `reader::expressions::read_expression` meets its contract. The loop's invariant: the expression is read as far as the state says.
+-- The measure is what is left of the text. Assumes nothing.
+use Prim.Native.Nat.{◌-◌}
+use native.Mathlib.Omega.{arith}
+use lib.ListN.{length}
+use borrow.Author.Rules.{rules}
+use Rattle.reader.specs.Frames.{Ready, Reached}
+use Rattle.reader.proofs.TurnLaws.{at_first, went_further, went_on, went_wrong, went_over}
+use Rattle.reader.proofs.expressions.read_expression.Given as goal
+
+abbrev pub invariant-loop-next : goal.invariant-loop-next
+invariant-loop-next l = Ready l.text l.s l.rows l.held × Reached l.text l.from l.first l.initial.rows l.s l.rows l.held
+
+abbrev pub decreases-loop-next : goal.decreases-loop-next
+decreases-loop-next l = length l.text - l.s.at

@@ -1,0 +1,15 @@
+-- `reader::put::put_row` meets its contract. Assumes nothing.
+use mathlib.Core.Path.{sym}
+use Rattle.reader.proofs.RowLaws.{row_beyond, row_sets}
+use borrow.Author.Rules.{rules}
+use Rattle.reader.proofs.put.put_row.Goals as goal
+
+pub returns-then-row-ge-MOST_ROWS : goal.returns-then-row-ge-MOST_ROWS
+returns-then-row-ge-MOST_ROWS c =
+    let args = c.args in
+    sym (row_beyond args.row (args.k, args.p, args.q, args.r) args.rows.now c.if-row-ge-MOST_ROWS.true)
+
+pub returns : goal.returns
+returns c =
+    let args = c.args in
+    row_sets args.row (args.k, args.p, args.q, args.r) args.rows.now c.if-row-ge-MOST_ROWS.false
