@@ -1,4 +1,6 @@
 // A job's bytes to its report's bytes: the job is read, run under the monitor, and its report written.
+#![tactic(auto)]
+
 ghost use Rattle.std.specs.Prelude.{◌≡◌, ◌*◌, ◌≤◌, length, replicate};
 ghost use Rattle.rules.specs.Limits.{record_words, most_trace_words};
 ghost use Rattle.rules.specs.Answers.{inputs, answer};
