@@ -11,21 +11,6 @@ use Rattle.reader.proofs.SpellLaws.{spells_input}
 use Rattle.reader.proofs.HeadLaws.{head_none, head_more, head_faulty}
 use Rattle.reader.proofs.head.read_head.Goals as goal
 
--- a turn: one declaration more, and less of the text is left
-turn : (c : tie.After-seen-with invariant-loop decreases-loop)
-    → let at-loop = c.before.before.before.before.before.before.before.before.before.before in
-    let text = at-loop.before.before.args.text.now in
-    Declarations text c.seen-with.result × (length text - c.seen-with.result.at < length text - at-loop.loop.s.at)
-turn c =
-    let at-declaration = c.before.before.before.before in
-    let found = at-declaration.before.before.found.given in
-    let at-expect = at-declaration.before.before.before.before in
-    let at-loop = at-expect.before.before in
-    let text = at-loop.before.before.args.text.now in
-    let led = subst (Expected text at-loop.loop.s.at token.input) found.1 (at-expect.expect.ensures token.input spells_input) in
-    let declared = subst (DeclarationRead text found.0.0) c.before.before.declared2.given.1 at-declaration.read-declaration.ensures in
-    head_more at-loop.loop.invariant led declared c.seen-with.result c.seen-with.ensures
-
 pub loop-next-init : goal.loop-next-init
 loop-next-init c = head_none c.args.text.now
 
@@ -44,7 +29,15 @@ returns-in-Faulty c =
     (subst (DeclarationRead text c.in-Next.next) c.in-Faulty.is c.read_declaration-declared.ensures)
 
 pub loop-next-smaller : goal.loop-next-smaller
-loop-next-smaller c = (turn c).1
+loop-next-smaller c =
+    let text = c.args.text.now in
+    let led = subst (Expected text c.loop-next.s.at token.input) c.in-Next.is (c.expect-found.ensures token.input spells_input) in
+    let declared = subst (DeclarationRead text c.in-Next.next) c.in-As.is c.read_declaration-declared.ensures in
+    (head_more c.loop-next.invariant led declared c.seen_with-s.result c.seen_with-s.ensures).1
 
 pub loop-next-preserved : goal.loop-next-preserved
-loop-next-preserved c = (turn c).0
+loop-next-preserved c =
+    let text = c.args.text.now in
+    let led = subst (Expected text c.loop-next.s.at token.input) c.in-Next.is (c.expect-found.ensures token.input spells_input) in
+    let declared = subst (DeclarationRead text c.in-Next.next) c.in-As.is c.read_declaration-declared.ensures in
+    (head_more c.loop-next.invariant led declared c.seen_with-s.result c.seen_with-s.ensures).0

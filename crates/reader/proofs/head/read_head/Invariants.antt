@@ -12,7 +12,7 @@ use Rattle.reader.proofs.HeadLaws.{head_none, head_more, head_faulty}
 use Rattle.reader.proofs.head.read_head.Given as goal
 
 abbrev pub invariant-loop-next : goal.invariant-loop-next
-invariant-loop-next l = Declarations l.text s
+invariant-loop-next l = Declarations l.text l.s
 
 abbrev pub decreases-loop-next : goal.decreases-loop-next
-decreases-loop-next l = length l.text - s.at
+decreases-loop-next l = length l.text - l.s.at

@@ -1,7 +1,8 @@
 -- `reader::words::is_word` meets its contract. Assumes nothing.
-use Prim.Native.Nat.{◌+◌, ◌≤◌}
+use Prim.Native.Nat.{ℕ, ◌+◌, ◌-◌, ◌≤◌}
+use mathlib.Core.List.{List}
 use native.Mathlib.Omega.{arith}
-use mathlib.Core.Bool.{true, true≢false}
+use mathlib.Core.Bool.{Bool, true, true≢false}
 use mathlib.Core.Path.{◌≡◌, sym, ◌∙◌}
 use lib.ListN.{length}
 use borrow.Author.Rules.{rules}
@@ -12,18 +13,10 @@ use Rattle.reader.proofs.StartLaws.{word_short, word_other, word_goes_on, word_s
 use Rattle.reader.proofs.words.is_word.Goals as goal
 
 -- the key stands there
-is_whole : (c : tie.Else2)
-    → let start = c.before.before.before.before.before.before in
-    let text = start.args.text.now in
-    let key = start.args.key.now in
-    (same key (part text start.args.at (start.args.at + length key)) ≡ true) × (start.args.at + length key ≤ length text)
-is_whole c =
-    let key = c.before in
-    let room = key.before.before in
-    let start = room.before.before.before in (
-      sym key.is_key.ensures ∙ not-false key.is_key.result c.if2.false,
-      omega (arith, room.if1.false, start.requires),
-    )
+is_whole :
+    (text key : List ℕ) (at : ℕ) {b : Bool} → b ≡ same key (part text at (at + length key)) → b ≡ true → length key ≤ length text - at
+    → at ≤ length text → (same key (part text at (at + length key)) ≡ true) × (at + length key ≤ length text)
+is_whole text key at e h room inside = (sym e ∙ h, omega arith)
 
 pub returns-then-text-at : goal.returns-then-text-at
 returns-then-text-at c =
@@ -41,7 +34,7 @@ returns-then-not-is_key c =
 
 pub returns-then-is_joined : goal.returns-then-is_joined
 returns-then-is_joined c =
-    let whole = is_whole c in
+    let whole = is_whole c.args.text.now c.args.key.now c.args.at c.is_key.ensures c.if-not-is_key.false c.if-text-at.false c.requires in
     (
       (λ one shown w cut.
           word_goes_on c.args.key.now one shown cut c.is_joined-then-is_joined.result (sym c.is_joined-then-is_joined.ensures) whole.1 whole.0
@@ -51,7 +44,7 @@ returns-then-is_joined c =
 
 pub returns : goal.returns
 returns c =
-    let whole = is_whole c in
+    let whole = is_whole c.args.text.now c.args.key.now c.args.at c.is_key.ensures c.if-not-is_key.false c.if-text-at.false c.requires in
     (
       (λ one shown w cut.
           let single = word_single c.args.key.now one shown cut whole.1 whole.0 (sym c.is_joined.ensures ∙ c.if-is_joined.false) in
