@@ -1,5 +1,7 @@
 // The functions for C and Rust: numbers and slices only. What they answer is laid over the first words of a buffer that the
 // caller lends; a buffer that is too short is refused with a number of its own, and then nothing has changed.
+#![tactic(auto)]
+
 ghost use Rattle.std.specs.Prelude.{◌≡◌, [], ◌∷◌, ◌++◌, ◌%◌, ◌^◌, ◌≤◌, length};
 ghost use Rattle.rules.specs.Limits.{word_bits};
 ghost use Rattle.rules.specs.Answers.{inputs, said_of_judge, said_of_run, because_of, said_of_check};

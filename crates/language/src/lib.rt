@@ -2,14 +2,14 @@
 use rules::Marks;
 
 // A part of a text.
-#[derive(Drop)]
+#[derive(Clone, Copy)]
 pub struct Part {
     pub start: usize,
     pub size: usize,
 }
 
 // What a reading says: the refusal's number and row, or 0; how many rows and which marks; and the part that is handed back.
-#[derive(Drop)]
+#[derive(Clone, Copy)]
 pub struct Said {
     pub refusal: u32,
     pub at: u32,
