@@ -2,6 +2,19 @@
 -- what the function's `ensures` tells whoever calls it. The exceptions are listed in docs/CONTRACTS.md.
 -- 10.10: The contract of each public function decides the whole answer and everything lent, for every input: no second
 -- answer meets it, but for the exceptions that are listed.
+use Rattle.rows.specs.contracts as rows
+use Rattle.table.specs.contracts as table
+use Rattle.leaves.specs.contracts as leaves
+use Rattle.expression.specs.contracts as expression
+use Rattle.monitor.specs.contracts as monitor
+use Rattle.levels.specs.contracts as levels
+use Rattle.numbers.specs.contracts as numbers
+use Rattle.job.specs.contracts as job
+use Rattle.report.specs.contracts as report
+use Rattle.desk.specs.contracts as desk
+use Rattle.spans.specs.contracts as spans
+use Rattle.reader.specs.contracts as reader
+use Rattle.embed.specs.contracts as embed
 use Rattle.rows.proofs.has_row
 use Rattle.rows.proofs.row_at
 use Rattle.rows.proofs.read_row
@@ -38,47 +51,47 @@ use Rattle.decided.specs.Decided.{Decided}
 
 pub record NoSecondAnswer : Type 0 where
   -- `rows`
-  pub has_row : Decided has_row.signature has_row.Reads.Learnt
-  pub row_at : Decided row_at.signature row_at.Reads.Learnt
-  pub read_row : Decided read_row.signature read_row.Reads.Learnt
+  pub has_row : Decided rows.has_row.signature has_row.Reads.Learnt
+  pub row_at : Decided rows.row_at.signature row_at.Reads.Learnt
+  pub read_row : Decided rows.read_row.signature read_row.Reads.Learnt
   -- `table`
-  pub judge : Decided judge.signature judge.Reads.Learnt
+  pub judge : Decided table.judge.signature judge.Reads.Learnt
   -- `leaves`
-  pub only_mark : Decided only_mark.signature only_mark.Reads.Learnt
-  pub has_mark : Decided has_mark.signature has_mark.Reads.Learnt
-  pub mark_as : Decided mark_as.signature mark_as.Reads.Learnt
-  pub joined : Decided joined.signature joined.Reads.Learnt
-  pub operated : Decided operated.signature operated.Reads.Learnt
-  pub read_lent : Decided read_lent.signature read_lent.Reads.Learnt
-  pub store_lent : Decided store_lent.signature store_lent.Reads.Learnt
-  pub copy_words : Decided copy_words.signature copy_words.Reads.Learnt
+  pub only_mark : Decided leaves.marks.only_mark.signature only_mark.Reads.Learnt
+  pub has_mark : Decided leaves.marks.has_mark.signature has_mark.Reads.Learnt
+  pub mark_as : Decided leaves.marks.mark_as.signature mark_as.Reads.Learnt
+  pub joined : Decided leaves.marks.joined.signature joined.Reads.Learnt
+  pub operated : Decided leaves.operators.operated.signature operated.Reads.Learnt
+  pub read_lent : Decided leaves.memory.read_lent.signature read_lent.Reads.Learnt
+  pub store_lent : Decided leaves.memory.store_lent.signature store_lent.Reads.Learnt
+  pub copy_words : Decided leaves.copy.copy_words.signature copy_words.Reads.Learnt
   -- `expression`
-  pub value_at : Decided value_at.signature value_at.Reads.Learnt
-  pub evaluate : Decided evaluate.signature evaluate.Reads.Learnt
-  pub assigned_at : Decided assigned_at.signature assigned_at.Reads.Learnt
-  pub may_assign : Decided may_assign.signature may_assign.Reads.Learnt
+  pub value_at : Decided expression.values.value_at.signature value_at.Reads.Learnt
+  pub evaluate : Decided expression.values.evaluate.signature evaluate.Reads.Learnt
+  pub assigned_at : Decided expression.assigned.assigned_at.signature assigned_at.Reads.Learnt
+  pub may_assign : Decided expression.assigned.may_assign.signature may_assign.Reads.Learnt
   -- `monitor`
-  pub run : Decided run.signature run.Reads.Learnt
+  pub run : Decided monitor.run.signature run.Reads.Learnt
   -- `levels`
-  pub check : Decided check.signature check.Reads.Learnt
+  pub check : Decided levels.check.signature check.Reads.Learnt
   -- `numbers`
-  pub number_at : Decided number_at.signature number_at.Reads.Learnt
+  pub number_at : Decided numbers.number_at.signature number_at.Reads.Learnt
   -- `job`
-  pub read_job : Decided read_job.signature read_job.Reads.Learnt
+  pub read_job : Decided job.read_job.signature read_job.Reads.Learnt
   -- `report`
-  pub write_refusal : Decided write_refusal.signature write_refusal.Reads.Learnt
-  pub write_report : Decided write_report.signature write_report.Reads.Learnt
+  pub write_refusal : Decided report.write_refusal.signature write_refusal.Reads.Learnt
+  pub write_report : Decided report.write_report.signature write_report.Reads.Learnt
   -- `desk`
-  pub answer_job : Decided answer_job.signature answer_job.Reads.Learnt
+  pub answer_job : Decided desk.answer_job.signature answer_job.Reads.Learnt
   -- `spans`
-  pub start_at : Decided start_at.signature start_at.Reads.Learnt
-  pub word_at : Decided word_at.signature word_at.Reads.Learnt
-  pub is_joined : Decided is_joined.signature is_joined.Reads.Learnt
-  pub is_key : Decided is_key.signature is_key.Reads.Learnt
+  pub start_at : Decided spans.start_at.signature start_at.Reads.Learnt
+  pub word_at : Decided spans.word_at.signature word_at.Reads.Learnt
+  pub is_joined : Decided spans.is_joined.signature is_joined.Reads.Learnt
+  pub is_key : Decided spans.is_key.signature is_key.Reads.Learnt
   -- `reader`
-  pub read_text : Decided read_text.signature read_text.Reads.Learnt
+  pub read_text : Decided reader.read_text.signature read_text.Reads.Learnt
   -- `embed`
-  pub buzorinde_judge : Decided buzorinde_judge.signature buzorinde_judge.Reads.Learnt
-  pub buzorinde_check : Decided buzorinde_check.signature buzorinde_check.Reads.Learnt
-  pub buzorinde_run : Decided buzorinde_run.signature buzorinde_run.Reads.Learnt
-  pub buzorinde_read : Decided buzorinde_read.signature buzorinde_read.Reads.Learnt
+  pub buzorinde_judge : Decided embed.buzorinde_judge.signature buzorinde_judge.Reads.Learnt
+  pub buzorinde_check : Decided embed.buzorinde_check.signature buzorinde_check.Reads.Learnt
+  pub buzorinde_run : Decided embed.buzorinde_run.signature buzorinde_run.Reads.Learnt
+  pub buzorinde_read : Decided embed.buzorinde_read.signature buzorinde_read.Reads.Learnt
