@@ -11,7 +11,7 @@ use Rattle.language.specs.Words.{Word}
 use Rattle.language.specs.Tokens.{tokens}
 use Rattle.language.specs.Recipes.{Recipe}
 use Rattle.language.specs.Tables.{block_size, table_of, block_tree, is_declared_provisional}
-use Rattle.language.specs.Readings.{words_of, Is, Begun, Fault, handed, part_at, Reading, Reads}
+use Rattle.language.specs.Readings.{words_of, Is, Begun, handed, part_at, Reading, Reads}
 use Rattle.language.specs.Cases.{TextsRead, TextsRefused, FaultsFound, WordsTold}
 
 -- 13.21: No two recipes are the same words, ..

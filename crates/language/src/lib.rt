@@ -1,4 +1,6 @@
 // Recipes as text: what a reading answers. The language itself is in specs/; there is no code here.
+#![tactic(auto)]
+
 use rules::Marks;
 
 // A part of a text.

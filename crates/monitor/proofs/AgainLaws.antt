@@ -1,10 +1,9 @@
 -- A run that has ended can be gone on with.
-use Prim.Native.Nat.{◌*◌, ◌≤◌}
 use native.Mathlib.Omega.{arith}
 use mathlib.Core.List.{List}
-use mathlib.Core.Path.{◌≡◌, sym, ap, ◌∙◌}
+use mathlib.Core.Path.{sym, ap, ◌∙◌}
 use Rattle.rules.specs.Running.{Record, Outcome, state}
-use Rattle.step.specs.Denoted.{items_of, sets_of, records_of}
+use Rattle.step.specs.Denoted.{items_of, sets_of}
 use Rattle.step.proofs.ArrayLaws.{records_none}
 use Rattle.monitor.specs.Again.{afresh, GoesOnAgain}
 

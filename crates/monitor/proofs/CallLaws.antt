@@ -1,5 +1,5 @@
 -- A whole call of the run: the state that it starts from, and its answer and trace from how it went.
-use Prim.Native.Nat.{ℕ, ◌+◌, ◌-◌, ◌*◌, ◌/◌, ◌^◌, ◌≤◌, ◌<◌}
+use Prim.Native.Nat.{ℕ, ◌+◌, ◌-◌, ◌/◌, ◌^◌, ◌≤◌, ◌<◌}
 use native.Mathlib.Omega.{arith}
 use mathlib.Core.List.{List, [], ◌∷◌}
 use mathlib.Core.Path.{◌≡◌, refl, sym, ap, ap₂, ◌∙◌, subst}
@@ -11,7 +11,7 @@ use Rattle.rules.specs.Limits.{width, most_trace_words, most_nesting}
 use Rattle.rules.specs.Rows.{rows_of, row_at}
 use Rattle.rules.specs.Trees.{recipe}
 use Rattle.rules.specs.Judging.{judge}
-use Rattle.rules.specs.Running.{Item, statement, State, state, Record, run}
+use Rattle.rules.specs.Running.{Item, statement, State, state, run}
 use Rattle.rules.specs.Bounds.{most_pending, Bounds}
 use Rattle.rules.specs.Sound.{Sound}
 use Rattle.rules.specs.Answers.{Whole, Inputs, inputs, said_of_run, because_of, reached, answered, answer, trace_after, told_of, telling, Tells, RunAnswers, terms_of}
@@ -25,7 +25,7 @@ use Rattle.step.specs.Denoted.{items_of, sets_of, records_of, arrays, state_of, 
 use Rattle.step.proofs.ArrayLaws.{item_row, items_push, items_none, entries_push, sets_none, records_none, records_length, trace_law}
 use Rattle.step.proofs.StepLaws.{entry_of}
 use Rattle.monitor.specs.declared.Reached.{Reached}
-use Rattle.monitor.specs.Going.{left_in, Went}
+use Rattle.monitor.specs.Going.{Went}
 
 -- what the trace and this end show
 abbrev shown : List ℕ → Reached → Whole

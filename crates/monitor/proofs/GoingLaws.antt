@@ -1,21 +1,20 @@
 -- Going on with a run: how it starts, goes on by a step, and ends.
-use Prim.Native.Nat.{ℕ, suc, ◌+◌, ◌-◌, ◌*◌, ◌≤◌, ◌<◌}
+use Prim.Native.Nat.{ℕ, suc, ◌+◌, ◌-◌}
 use native.Mathlib.Omega.{arith}
-use mathlib.Core.List.{List, [], ◌∷◌}
+use mathlib.Core.List.{List}
 use mathlib.Core.Logic.{◌≢◌}
-use mathlib.Core.Path.{◌≡◌, refl, sym, ap, ◌∙◌, subst}
+use mathlib.Core.Path.{◌≡◌, sym, ap, ◌∙◌, subst}
 use lib.ListN.{length, get_or}
 use Rattle.rules.specs.declared.Row.{Row}
 use Rattle.rules.specs.declared.Ended.{Ended}
-use Rattle.rules.specs.Running.{Item, State, Terms, Attempt, denied, roomless, taken, attempted, outcome, run}
+use Rattle.rules.specs.Running.{State, Terms, Attempt, denied, roomless, attempted, outcome, run}
 use Rattle.rules.specs.Answers.{terms_of}
 use Rattle.rules.proofs.RunLaws.{run_idle, run_out, run_taken, run_stopped, run_full}
 use Rattle.step.specs.declared.Held.{Held}
-use Rattle.step.specs.Denoted.{item_of, items_of, Arrays, arrays, state_of, Holds}
+use Rattle.step.specs.Denoted.{item_of, items_of, Arrays, state_of, Holds}
 use Rattle.step.specs.Turns.{Kept, Goes, Stays}
 use Rattle.step.proofs.ArrayLaws.{items_none, items_pop, kept_same, kept_then}
-use Rattle.monitor.specs.declared.Reached.{Reached}
-use Rattle.monitor.specs.Going.{left_in, Went, UnderWay}
+use Rattle.monitor.specs.Going.{Went, UnderWay}
 
 module _ (rows : List Row) (a₀ : Arrays) (h₀ : Held) (budget : ℕ) where
   abbrev T : Terms

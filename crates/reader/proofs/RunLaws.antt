@@ -11,7 +11,7 @@ use Rattle.language.specs.Tokens.{Token}
 use Rattle.language.specs.Tables.{operator_number}
 use Rattle.language.specs.Recipes.{Statement, skip, set, if, while, Block, one, more, Level, plain, Declaration, Recipe, expr_tokens, statement_tokens, block_tokens, level_tokens, declaration_tokens, declarations_tokens, recipe_tokens}
 use Rattle.language.specs.Recipes as recipe
-use Rattle.reader.specs.Machine.{tag, Closer, at_else, at_end, at_finish, Symbol, expr, statement, exactly, name, operator, rest, start, level, on_expr, on_statement, closing, on_rest, on_start, on_level, expected, finished, onward, run}
+use Rattle.reader.specs.Machine.{tag, Closer, at_else, at_end, at_finish, Symbol, expr, statement, exactly, name, operator, rest, start, on_expr, on_statement, closing, on_rest, on_start, on_level, expected, finished, onward, run}
 
 -- the words of two lists, one after the other
 pub joined : (a b ts : List Token) (symbols : List Symbol) → run ((a ++ b) ++ ts) symbols ≡ run (a ++ (b ++ ts)) symbols

@@ -21,7 +21,7 @@ use Rattle.rules.specs.Trees.{recipe}
 use Rattle.rules.specs.Judging.{or_else, judge, judge_trace}
 use Rattle.rules.specs.Running.{statement, State, state, blank, start, Record}
 use Rattle.rules.specs.LevelCheck.{walk, checked_of}
-use Rattle.rules.specs.Answers.{Told, Said, accepted, refused, verdict, pass, fail, said_of_judge, said_of_run, because_of, said_of_check, Whole, Inputs, inputs, final, started, admitted, answered, terms_of, answer, trace_words_of, trace_after, advised, advice, judgement, told_of, telling}
+use Rattle.rules.specs.Answers.{Told, Said, accepted, refused, verdict, pass, fail, said_of_judge, said_of_run, because_of, said_of_check, Whole, Inputs, inputs, final, admitted, answered, terms_of, answer, trace_words_of, trace_after, advised, advice, judgement, told_of, telling}
 use Rattle.rules.specs.Sound.{Sound}
 use Rattle.rules.proofs.MarkLaws.{none_zero}
 use Rattle.rules.proofs.JudgeLaws.{or_else_accepted, accepted_sound}

@@ -11,7 +11,7 @@ use Rattle.rules.specs.Marks.{none, put, union, provisional}
 use Rattle.rules.specs.Trees.{Expr, Stmt, skip, assign, sequence, if, while, output}
 use Rattle.rules.specs.Values.{value, holds, level, may_assign}
 use Rattle.rules.specs.Running.{Item, statement, close, Log, State, state, Terms, context, guarded, push, counted, noted, skipped, assigned, opened, branched, turned, closed_marks, popped, closed, recorded, Attempt, finished, denied, roomless, taken, denies, is_denied, output_attempt, begin, attempt, attempted, Outcome, outcome, at_budget, follow, run}
-use Rattle.rules.specs.Answers.{Whole, reached, final}
+use Rattle.rules.specs.Answers.{reached, final}
 
 -- ---- what is pending matters to a step only by the item that it is taken from
 

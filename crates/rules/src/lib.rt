@@ -1,4 +1,5 @@
 // The types that the rules and the code share: kinds, roles of a word, rows, memory, and the answers.
+#![tactic(auto)]
 
 // how many values there are
 // 1.1: A value is a whole number from 0 to 4,294,967,295, and so is a word of a table: 32 bits.

@@ -16,7 +16,7 @@ use Rattle.rules.specs.Marks.{◌⊆◌, provisional}
 use Rattle.rules.specs.Running.{Record, State, Terms, context, run}
 use Rattle.rules.specs.LevelRules.{failing}
 use Rattle.rules.specs.LevelCheck.{checked_of}
-use Rattle.rules.specs.Answers.{refused, said_of_run, because_of, said_of_check, Whole, Inputs, terms_of, started, answer, trace_words_of, JudgeAnswers, RunAnswers, Advised, advised_of, CheckAnswers}
+use Rattle.rules.specs.Answers.{refused, said_of_run, because_of, said_of_check, Whole, Inputs, terms_of, answer, trace_words_of, JudgeAnswers, RunAnswers, Advised, advised_of, CheckAnswers}
 use Rattle.rules.proofs.RunInvariants.{run_unrefused}
 use Rattle.rules.proofs.AnswerLaws.{start_of, start_law, Call, ran, away, call, answer_refused, answer_oversized, answer_ran, shown_law, told_said, told_because, told_steps, told_records, told_memory, told_marks, trace_after_law, trace_words_cons, advice_refused, judged_unique, ended_unique, checked_unique, said_judged, judged_as}
 use Rattle.safety.specs.Demands.{Names, SameRun, unwatched, EitherBegins, SameToTheStations}

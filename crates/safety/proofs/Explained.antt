@@ -4,12 +4,11 @@ use mathlib.Core.Bool.{Bool, true, false, ◌||◌, ◌&&◌, or-false, true≢f
 use mathlib.Core.Path.{◌≡◌, sym, ap, ◌∙◌, subst}
 use lib.Dec.{eqb}
 use Rattle.rules.specs.Marks.{◌⊆◌, provisional}
-use Rattle.rules.specs.Trees.{Expr}
 use Rattle.rules.specs.Values.{level}
-use Rattle.rules.specs.Running.{State, context, denies, run}
+use Rattle.rules.specs.Running.{State, context}
 use Rattle.rules.proofs.AgreeLaws.{level_within}
 use Rattle.rules.proofs.StopLaws.{Spoiled, spoiled, stopped_spoiled}
-use Rattle.safety.specs.Demands.{Explains, StopsAreExplained}
+use Rattle.safety.specs.Demands.{StopsAreExplained}
 
 -- an output that is denied in a settled context has a provisional expression
 in_settled : (channel : Bool) (x y : Bool) → (channel && (x || y)) ≡ true → y ≡ false → x ≡ true

@@ -1,16 +1,15 @@
 -- Demand 2: a run that ends done has the records, memory and steps of the unwatched language.
 use Prim.Native.Nat.{ℕ, zero, suc}
 use native.Mathlib.Omega.{arith}
-use mathlib.Core.Bool.{Bool, true, false, ◌||◌, ◌&&◌}
+use mathlib.Core.Bool.{Bool, true, false}
 use mathlib.Core.List.{List, [], ◌∷◌}
 use mathlib.Core.Path.{◌≡◌, refl, sym, ap, ◌∙◌, subst}
-use lib.Dec.{eqb, ltb}
+use lib.Dec.{ltb}
 use lib.ListN.{length}
-use Rattle.rules.specs.Marks.{provisional}
 use Rattle.rules.specs.Rows.{rows_of}
 use Rattle.rules.specs.Trees.{Expr, Stmt, skip, assign, sequence, if, while, output, recipe}
-use Rattle.rules.specs.Values.{holds, level}
-use Rattle.rules.specs.Running.{Item, statement, close, Log, state, blank, Terms, context, counted, denies}
+use Rattle.rules.specs.Values.{holds}
+use Rattle.rules.specs.Running.{Item, statement, close, Log, state, blank, Terms, counted, denies}
 use Rattle.rules.specs.Unwatched.{Plain, PlainOutcome, plain_run}
 use Rattle.rules.specs.Answers.{refused, verdict, Whole, final, answer, terms_of}
 use Rattle.rules.proofs.RunLaws.{run_done, run_spent, run_sequence, run_skip, run_assign, run_close_empty, run_close, run_then, run_else, run_turn, run_leave, run_denied_lem, run_roomless, run_record}

@@ -1,7 +1,7 @@
 -- The statement that is next, kind by kind: what its parts need, and the rules' step from what each part did.
-use Prim.Native.Nat.{ℕ, ◌+◌, ◌-◌, ◌*◌, ◌≤◌, ◌<◌}
+use Prim.Native.Nat.{ℕ, ◌+◌, ◌-◌, ◌≤◌, ◌<◌}
 use native.Mathlib.Omega.{arith}
-use mathlib.Core.Bool.{Bool, true, false, cond, not, ◌||◌, ◌&&◌}
+use mathlib.Core.Bool.{Bool, true, false, cond, ◌||◌, ◌&&◌}
 use mathlib.Core.List.{List, [], ◌∷◌}
 use mathlib.Core.Logic.{◌≢◌}
 use mathlib.Core.Path.{◌≡◌, refl, sym, ap, ap₂, ◌∙◌, subst, subst₂}
@@ -13,12 +13,12 @@ use lib.ListN.{length, get_or, set, length-set}
 use lib.Seq.{get_or-set_same, get_or-set_other}
 use Rattle.rules.specs.declared.Kind.{Kind}
 use Rattle.rules.specs.declared.Row.{Row}
-use Rattle.rules.specs.Limits.{width, most_nesting}
+use Rattle.rules.specs.Limits.{most_nesting}
 use Rattle.rules.specs.Marks.{put, union, provisional}
 use Rattle.rules.specs.Answers.{terms_of}
 use Rattle.rules.specs.Rows.{is_statement, row_at}
 use Rattle.rules.specs.Trees.{Expr, Stmt, if, while, output, stmt_at, expr_at, nesting}
-use Rattle.rules.specs.Values.{value, holds, level, may_assign}
+use Rattle.rules.specs.Values.{value, holds, level}
 use Rattle.rules.specs.Running.{Item, statement, close, state, context, Attempt, denied, roomless}
 use Rattle.rules.specs.Bounds.{need, most_pending, Bounds}
 use Rattle.rules.proofs.MarkLaws.{none_zero}

@@ -1,5 +1,5 @@
 -- What the contract of a step leaves open.
-use Prim.Native.Nat.{ℕ, ◌+◌, ◌*◌, ◌≤◌}
+use Prim.Native.Nat.{ℕ, ◌+◌}
 use native.Mathlib.Omega.{arith}
 use mathlib.Core.List.{List}
 use mathlib.Core.Path.{◌≡◌, refl, sym, ap, ap₂, ◌∙◌}
@@ -8,10 +8,9 @@ use Rattle.rules.specs.declared.Row.{Row}
 use Rattle.rules.specs.Running.{Record, State, Attempt, finished, denied, roomless, taken}
 use Rattle.rules.specs.Answers.{trace_after}
 use Rattle.step.specs.declared.Held.{Held}
-use Rattle.step.specs.declared.Turn.{Turn}
 use Rattle.step.specs.declared.Turn.TheVariants.{Went, Stopped, NoRoom}
-use Rattle.step.specs.Denoted.{items_of, sets_of, records_of, Arrays, state_of}
-use Rattle.step.specs.Turns.{Goes, Stays, Turned}
+use Rattle.step.specs.Denoted.{records_of, Arrays, state_of}
+use Rattle.step.specs.Turns.{Goes}
 use Rattle.step.specs.Open.{SameTurn, TurnIsDecided}
 use Rattle.step.proofs.ArrayLaws.{items_length, sets_length, records_length, trace_law}
 

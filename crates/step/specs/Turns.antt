@@ -14,7 +14,7 @@ use Rattle.rules.specs.Answers.{terms_of}
 use Rattle.step.specs.declared.Held.{Held}
 use Rattle.step.specs.declared.Turn.{Turn}
 use Rattle.step.specs.declared.Turn.TheVariants.{Went, Stopped, NoRoom}
-use Rattle.step.specs.Denoted.{items_of, sets_of, Arrays, arrays, state_of, Entry, Entries, Holds}
+use Rattle.step.specs.Denoted.{items_of, sets_of, Arrays, state_of, Entry, Entries, Holds}
 
 -- ---- a whole step
 

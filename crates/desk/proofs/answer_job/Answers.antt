@@ -7,7 +7,6 @@ use Rattle.desk.specs.Desk.{most_report, job_report}
 use Rattle.desk.proofs.DeskLaws.{handed_on, refused_report_lem}
 use native.Mathlib.Omega.{arith}
 use lib.Seq.{length-take-le}
-use borrow.Author.Rules.{rules}
 use Rattle.desk.proofs.answer_job.Goals as goal
 
 pub returns-then-out-lt-REPORT_BYTES : goal.returns-then-out-lt-REPORT_BYTES
@@ -28,12 +27,11 @@ slice_bounds-report_run-end c =
     c.in-Job.budget c.in-Job.room c.in-Job.marks c.in-Job.rows c.in-Job.is).words)
 
 pub report_run-requires : goal.report_run-requires
-report_run-requires c =
-    (
-      (handed_on c.args.text.now c.read_job-reading.result c.read_job-reading.ensures
-          c.in-Job.budget c.in-Job.room c.in-Job.marks c.in-Job.rows c.in-Job.is).within,
-      c.if-out-lt-REPORT_BYTES.false,
-    )
+report_run-requires c = (
+  (handed_on c.args.text.now c.read_job-reading.result c.read_job-reading.ensures
+      c.in-Job.budget c.in-Job.room c.in-Job.marks c.in-Job.rows c.in-Job.is).within,
+  c.if-out-lt-REPORT_BYTES.false,
+)
 
 pub returns-in-Refused : goal.returns-in-Refused
 returns-in-Refused c =

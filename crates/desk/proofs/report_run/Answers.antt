@@ -7,7 +7,6 @@ use Rattle.report.specs.Written.{placed_in}
 use Rattle.desk.specs.Desk.{most_report}
 use native.Mathlib.Omega.{arith}
 use Rattle.desk.proofs.DeskLaws.{room_lent, room_same}
-use borrow.Author.Rules.{rules}
 use Rattle.desk.proofs.report_run.Goals as goal
 
 pub slice_bounds-report_traced-end : goal.slice_bounds-report_traced-end

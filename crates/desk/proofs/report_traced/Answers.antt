@@ -2,7 +2,6 @@
 use mathlib.Core.Path.{◌∙◌}
 use Rattle.rules.specs.Answers.{inputs}
 use Rattle.desk.proofs.DeskLaws.{run_written_lem}
-use borrow.Author.Rules.{rules}
 use Rattle.desk.proofs.report_traced.Goals as goal
 
 pub returns : goal.returns

@@ -1,6 +1,5 @@
 -- `embed::because_of` meets its contract.
 use borrow.Enum.Refused.{opened}
-use borrow.Author.Rules.{rules}
 use mathlib.Core.Path.{sym, ap}
 use Rattle.rules.specs.Answers.{because_of}
 use Rattle.rules.proofs.AnswerLaws.{because_none}

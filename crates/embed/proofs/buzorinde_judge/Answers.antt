@@ -1,5 +1,4 @@
 -- `embed::buzorinde_judge` meets its contract.
-use borrow.Author.Rules.{rules}
 use mathlib.Core.Path.{sym, ap, ◌∙◌}
 use mathlib.Core.List.{List}
 use Prim.Native.Nat.{ℕ}

@@ -1,5 +1,4 @@
 -- `embed::buzorinde_read` meets its contract.
-use borrow.Author.Rules.{rules}
 use Rattle.embed.specs.Calls.{short}
 use Rattle.embed.proofs.CallLaws.{read_answered}
 use Rattle.embed.proofs.buzorinde_read.Goals as goal

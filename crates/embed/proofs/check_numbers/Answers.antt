@@ -1,5 +1,4 @@
 -- `embed::check_numbers` meets its contract.
-use borrow.Author.Rules.{rules}
 use Rattle.embed.specs.Calls.{numbers_of}
 use Rattle.rules.specs.Answers.{said_of_check}
 use Rattle.rules.specs.declared.Checked.{Checked}

@@ -1,5 +1,4 @@
 -- `embed::judge_numbers` meets its contract.
-use borrow.Author.Rules.{rules}
 use Rattle.embed.specs.Calls.{numbers_of}
 use Rattle.rules.specs.Answers.{said_of_judge}
 use Rattle.rules.specs.declared.Judged.{Judged}

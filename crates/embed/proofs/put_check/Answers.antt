@@ -1,5 +1,4 @@
 -- `embed::put_check` meets its contract: one store after the numbers.
-use borrow.Author.Rules.{rules}
 use mathlib.Core.List.{List, [], ◌∷◌}
 use Prim.Native.Nat.{ℕ}
 use mathlib.Core.Path.{ap, ◌∙◌}

@@ -1,5 +1,4 @@
 -- `embed::put_numbers` meets its contract: three stores from the first word on.
-use borrow.Author.Rules.{rules}
 use native.Mathlib.Omega.{arith}
 use lib.ListN.{length-set}
 use lib.Seq.{sets-eq}

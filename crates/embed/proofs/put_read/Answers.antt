@@ -1,5 +1,4 @@
 -- `embed::put_read` meets its contract: four stores after the numbers.
-use borrow.Author.Rules.{rules}
 use native.Mathlib.Omega.{arith}
 use Prim.Native.Nat.{ℕ}
 use mathlib.Core.List.{List, [], ◌∷◌}

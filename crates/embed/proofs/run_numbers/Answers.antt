@@ -1,5 +1,4 @@
 -- `embed::run_numbers` meets its contract.
-use borrow.Author.Rules.{rules}
 use Rattle.embed.specs.Calls.{numbers_of}
 use Rattle.rules.specs.Answers.{said_of_run}
 use Rattle.rules.specs.declared.Ended.{Ended}

@@ -1,11 +1,7 @@
 -- `job::after_key` meets its contract. The loop's invariant: what is left of the key, at the place reached, is found where
 -- the key is found at its place. Assumes nothing.
-use Prim.Native.Nat.{◌-◌}
-use mathlib.Core.Path.{◌≡◌, refl, ◌∙◌}
-use lib.ListN.{length, drop}
-use Rattle.lines.specs.Lines.{after_key}
+use mathlib.Core.Path.{refl, ◌∙◌}
 use Rattle.lines.proofs.LineLaws.{key_again, key_differs, key_short, key_end}
-use borrow.Author.Rules.{rules}
 use Rattle.job.proofs.after_key.Goals as goal
 
 pub loop-j-init : goal.loop-j-init

@@ -1,11 +1,9 @@
 -- `job::after_key` meets its contract. The loop's invariant: what is left of the key, at the place reached, is found where
 -- the key is found at its place. Assumes nothing.
 use Prim.Native.Nat.{◌-◌}
-use mathlib.Core.Path.{◌≡◌, refl, ◌∙◌}
+use mathlib.Core.Path.{◌≡◌}
 use lib.ListN.{length, drop}
 use Rattle.lines.specs.Lines.{after_key}
-use Rattle.lines.proofs.LineLaws.{key_again, key_differs, key_short, key_end}
-use borrow.Author.Rules.{rules}
 use Rattle.job.proofs.after_key.Given as goal
 
 abbrev pub invariant-loop-j : goal.invariant-loop-j

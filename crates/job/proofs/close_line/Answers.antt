@@ -4,7 +4,6 @@ use mathlib.Core.Path.{sym, ap, ◌∙◌}
 use lib.ListN.{drop}
 use Rattle.job.specs.Read.{key_said}
 use Rattle.lines.proofs.LineLaws.{end_absent, end_within, end_over, range_none, range_within, range_over}
-use borrow.Author.Rules.{rules}
 use Rattle.job.proofs.close_line.Goals as goal
 
 pub returns-then-value-most : goal.returns-then-value-most

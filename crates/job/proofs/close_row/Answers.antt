@@ -5,7 +5,6 @@ use lib.ListN.{drop}
 use Rattle.lines.specs.Limits.{most_word}
 use Rattle.job.specs.Read.{key_said}
 use Rattle.lines.proofs.LineLaws.{end_absent, end_within, end_over, range_none, range_within, range_over}
-use borrow.Author.Rules.{rules}
 use Rattle.job.proofs.close_row.Goals as goal
 
 pub returns-in_default : goal.returns-in_default

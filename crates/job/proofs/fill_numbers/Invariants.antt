@@ -1,12 +1,7 @@
 -- `job::fill_numbers` meets its contract. Assumes nothing.
 use Prim.Native.Nat.{◌-◌}
-use mathlib.Core.List.{[], ◌∷◌}
-use mathlib.Core.Path.{refl, sym, ap, ◌∙◌}
 use Rattle.job.specs.Jobs.{number_lines}
-use Rattle.job.specs.Read.{line_said}
-use Rattle.job.proofs.FillLaws.{numbers_course, Filling, filling_start, filling_again, filling_stop, filling_done}
-use native.Mathlib.Omega.{arith}
-use borrow.Author.Rules.{rules}
+use Rattle.job.proofs.FillLaws.{Filling}
 use Rattle.job.proofs.fill_numbers.Given as goal
 
 abbrev pub invariant-loop-i : goal.invariant-loop-i

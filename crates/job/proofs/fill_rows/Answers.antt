@@ -1,14 +1,11 @@
 -- `job::fill_rows` meets its contract. Assumes nothing.
-use Prim.Native.Nat.{◌-◌, ◌*◌}
+use Prim.Native.Nat.{◌*◌}
 use mathlib.Core.List.{[], ◌∷◌}
 use mathlib.Core.Path.{sym, ap, ◌∙◌}
 use Rattle.rules.specs.Limits.{row_words}
-use Rattle.lines.specs.Lines.{lines_of}
-use Rattle.job.specs.Jobs.{row_line}
 use Rattle.job.specs.Read.{row_said}
-use Rattle.job.proofs.FillLaws.{rows_course, Filling, filling_start, filling_again, filling_stop, filling_done}
+use Rattle.job.proofs.FillLaws.{rows_course, filling_start, filling_again, filling_stop, filling_done}
 use native.Mathlib.Omega.{arith}
-use borrow.Author.Rules.{rules}
 use Rattle.job.proofs.fill_rows.Goals as goal
 
 pub loop-i-init : goal.loop-i-init

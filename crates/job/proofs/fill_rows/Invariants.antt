@@ -1,14 +1,9 @@
 -- `job::fill_rows` meets its contract. Assumes nothing.
 use Prim.Native.Nat.{◌-◌, ◌*◌}
-use mathlib.Core.List.{[], ◌∷◌}
-use mathlib.Core.Path.{sym, ap, ◌∙◌}
 use Rattle.rules.specs.Limits.{row_words}
 use Rattle.lines.specs.Lines.{lines_of}
 use Rattle.job.specs.Jobs.{row_line}
-use Rattle.job.specs.Read.{row_said}
-use Rattle.job.proofs.FillLaws.{rows_course, Filling, filling_start, filling_again, filling_stop, filling_done}
-use native.Mathlib.Omega.{arith}
-use borrow.Author.Rules.{rules}
+use Rattle.job.proofs.FillLaws.{Filling}
 use Rattle.job.proofs.fill_rows.Given as goal
 
 abbrev pub invariant-loop-i : goal.invariant-loop-i

@@ -3,7 +3,6 @@ use mathlib.Core.Path.{sym, ap, ◌∙◌}
 use lib.ListN.{drop}
 use Rattle.job.specs.Read.{key_said}
 use Rattle.lines.proofs.LineLaws.{field_absent, field_after}
-use borrow.Author.Rules.{rules}
 use Rattle.job.proofs.read_field.Goals as goal
 
 pub returns-in-Absent : goal.returns-in-Absent

@@ -5,7 +5,6 @@ use Rattle.rules.specs.Limits.{width}
 use Rattle.job.specs.Jobs.{inputs_of, read_inputs}
 use Rattle.job.specs.Read.{lines_said, reading}
 use Rattle.job.proofs.JobLaws.{many_broken, many_told, filled_front}
-use borrow.Author.Rules.{rules}
 use Rattle.job.proofs.read_inputs.Goals as goal
 
 pub read_table-requires : goal.read_table-requires

@@ -11,7 +11,6 @@ use Rattle.job.specs.Read.{lines_said, reading}
 use Rattle.job.proofs.JobLaws.{within_at, many_broken, many_told, job_long, job_sized}
 use Rattle.job.proofs.ToldLaws.{numbers_within}
 use native.Mathlib.Omega.{arith}
-use borrow.Author.Rules.{rules}
 use Rattle.job.proofs.read_job.Goals as goal
 
 -- the head was read: its numbers, and the text after it

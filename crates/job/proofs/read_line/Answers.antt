@@ -3,7 +3,6 @@ use mathlib.Core.Path.{sym, ap, ◌∙◌}
 use lib.ListN.{drop}
 use Rattle.numbers.specs.Read.{field_said}
 use Rattle.lines.proofs.LineLaws.{line_none, line_number}
-use borrow.Author.Rules.{rules}
 use Rattle.job.proofs.read_line.Goals as goal
 
 pub returns-in-Nothing : goal.returns-in-Nothing

@@ -7,7 +7,6 @@ use Rattle.lines.specs.Lines.{line_of}
 use Rattle.job.specs.Jobs.{Form, first_input, form_at, number_line}
 use Rattle.job.proofs.JobLaws.{input_form}
 use native.Mathlib.Omega.{arith}
-use borrow.Author.Rules.{rules}
 use Rattle.job.proofs.read_number.Goals as goal
 
 -- the line asked for is that of a number

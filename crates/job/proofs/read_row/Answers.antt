@@ -7,7 +7,6 @@ use Rattle.lines.specs.Lines.{row_key, comma, row_keys}
 use Rattle.job.specs.Jobs.{row_line}
 use Rattle.numbers.specs.Read.{field_said}
 use Rattle.lines.proofs.LineLaws.{fields_stop, fields_broken, fields_none, fields_more, line_stop, line_go}
-use borrow.Author.Rules.{rules}
 use Rattle.job.proofs.read_row.Goals as goal
 
 pub returns-in_default : goal.returns-in_default

@@ -10,7 +10,6 @@ use Rattle.job.specs.Read.{line_said, lines_said, reading}
 use Rattle.lines.proofs.LineLaws.{line_within}
 use Rattle.job.proofs.JobLaws.{table_uncounted, table_broken, table_further, table_told, filled_front, rows_counted, reading_told}
 use native.Mathlib.Omega.{arith}
-use borrow.Author.Rules.{rules}
 use Rattle.job.proofs.read_table.Goals as goal
 
 pub fill_rows-rows-requires : goal.fill_rows-rows-requires

@@ -1,6 +1,5 @@
 -- `job::store_row` meets its contract. Assumes nothing.
 use native.Mathlib.Numerals.{add-one, add-two, add-three}
-use borrow.Author.Rules.{rules}
 use Rattle.job.proofs.store_row.Goals as goal
 
 pub returns : goal.returns

@@ -1,9 +1,6 @@
 -- `levels::check` meets its contract: refused as judged, else what the walk over the whole recipe finds.
-use borrow.Author.Rules.{rules}
 use native.Mathlib.Omega.{arith}
-use mathlib.Core.Path.{◌≡◌, sym}
-use Rattle.rules.specs.declared.Judged.{Judged}
-use Rattle.rules.specs.Judging.{judge}
+use mathlib.Core.Path.{sym}
 use Rattle.rules.proofs.AnswerLaws.{judged_as, advice_refused}
 use Rattle.rules.proofs.JudgeLaws.{accepted_sound}
 use Rattle.levels.proofs.AdviceLaws.{some_rows, few_rows, last_within, advice_found}

@@ -1,5 +1,4 @@
 -- `levels::checked_at` meets its contract.
-use borrow.Author.Rules.{rules}
 use Rattle.levels.proofs.FoundLaws.{checked_some}
 use Rattle.levels.proofs.checked_at.Goals as goal
 

@@ -1,12 +1,10 @@
 -- `monitor::go_on` meets its contract.
-use borrow.Author.Rules.{rules}
 use native.Mathlib.Omega.{arith}
-use Prim.Native.Nat.{◌-◌}
 use mathlib.Core.Path.{sym, subst}
 use Rattle.rules.specs.Rows.{rows_of}
 use Rattle.step.specs.Denoted.{arrays}
 use Rattle.step.specs.Turns.{Turned}
-use Rattle.monitor.specs.Going.{Went, UnderWay}
+use Rattle.monitor.specs.Going.{Went}
 use Rattle.monitor.proofs.GoingLaws.{starts, done_here, spent_here, stopped_here, full_here, goes_on}
 use Rattle.monitor.proofs.go_on.Goals as goal
 
@@ -15,18 +13,12 @@ loop-here-init c =
     let a = c.args in
     starts (rows_of a.table.now) (arrays a.memory.words a.entries.now a.pile.now a.trace.now) a.held a.budget c.requires
 
-pub end_run-requires : goal.end_run-requires
-end_run-requires c = tt
-
 pub returns-then-here-eq0 : goal.returns-then-here-eq0
 returns-then-here-eq0 c =
     let a = c.args in
     let now = c.loop-here in
     subst (Went (rows_of a.table.now) (arrays a.memory.words a.entries.now a.pile.now a.trace.now) a.held a.budget _ _ _) (sym c.end_run.ensures)
     (done_here (rows_of a.table.now) (arrays a.memory.words a.entries.now a.pile.now a.trace.now) a.held a.budget (arrays now.words now.entries now.pile now.trace) now.here now.steps now.invariant c.if-here-eq0.true)
-
-pub end_run-requires-then-steps-budget : goal.end_run-requires-then-steps-budget
-end_run-requires-then-steps-budget c = tt
 
 pub returns-then-steps-budget : goal.returns-then-steps-budget
 returns-then-steps-budget c =
@@ -59,9 +51,6 @@ loop-here-preserved c =
     goes_on (rows_of a.table.now) (arrays a.memory.words a.entries.now a.pile.now a.trace.now) a.held a.budget (arrays now.words now.entries now.pile now.trace) now.here now.steps now.invariant c.if-steps-budget.false (arrays _ _ _ _) _
     (subst (Turned (rows_of a.table.now) (arrays now.words now.entries now.pile now.trace) now.here (arrays _ _ _ _)) c.in-Went.is c.step-turn.ensures)
 
-pub end_run-requires-in-Stopped : goal.end_run-requires-in-Stopped
-end_run-requires-in-Stopped c = tt
-
 pub returns-in-Stopped : goal.returns-in-Stopped
 returns-in-Stopped c =
     let a = c.args in
@@ -69,9 +58,6 @@ returns-in-Stopped c =
     subst (Went (rows_of a.table.now) (arrays a.memory.words a.entries.now a.pile.now a.trace.now) a.held a.budget _ _ _) (sym c.end_run-in-Stopped.ensures)
     (stopped_here (rows_of a.table.now) (arrays a.memory.words a.entries.now a.pile.now a.trace.now) a.held a.budget (arrays now.words now.entries now.pile now.trace) now.here now.steps now.invariant c.if-steps-budget.false _ _ (arrays _ _ _ _)
     (subst (Turned (rows_of a.table.now) (arrays now.words now.entries now.pile now.trace) now.here (arrays _ _ _ _)) c.in-Stopped.is c.step-turn.ensures))
-
-pub end_run-requires-in-NoRoom : goal.end_run-requires-in-NoRoom
-end_run-requires-in-NoRoom c = tt
 
 pub returns-in-NoRoom : goal.returns-in-NoRoom
 returns-in-NoRoom c =

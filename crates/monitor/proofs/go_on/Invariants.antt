@@ -1,13 +1,8 @@
 -- `monitor::go_on` meets its contract.
-use borrow.Author.Rules.{rules}
-use native.Mathlib.Omega.{arith}
 use Prim.Native.Nat.{◌-◌}
-use mathlib.Core.Path.{sym, subst}
 use Rattle.rules.specs.Rows.{rows_of}
 use Rattle.step.specs.Denoted.{arrays}
-use Rattle.step.specs.Turns.{Turned}
-use Rattle.monitor.specs.Going.{Went, UnderWay}
-use Rattle.monitor.proofs.GoingLaws.{starts, done_here, spent_here, stopped_here, full_here, goes_on}
+use Rattle.monitor.specs.Going.{UnderWay}
 use Rattle.monitor.proofs.go_on.Given as goal
 
 abbrev pub invariant-loop-here : goal.invariant-loop-here

@@ -1,11 +1,9 @@
 -- `monitor::run` meets its contract.
 use native.Mathlib.Omega.{arith}
-use mathlib.Core.Path.{◌≡◌, refl, sym, ◌∙◌}
-use Rattle.rules.specs.declared.Judged.{Judged}
+use mathlib.Core.Path.{sym, ◌∙◌}
 use Rattle.rules.proofs.AnswerLaws.{said_judged, answer_refused, answer_oversized}
 use Rattle.rules.specs.Answers.{inputs}
 use Rattle.monitor.proofs.CallLaws.{run_told, away_told}
-use borrow.Author.Rules.{rules}
 use Rattle.monitor.proofs.run.Goals as goal
 
 pub returns-in-Refused : goal.returns-in-Refused

@@ -3,7 +3,6 @@ use native.Mathlib.Omega.{arith}
 use mathlib.Core.Path.{refl}
 use lib.ListN.{replicate}
 use Rattle.rules.specs.Limits.{most_nesting}
-use Rattle.rules.specs.Rows.{rows_of}
 use Rattle.rules.specs.Bounds.{most_pending}
 use Rattle.rules.proofs.JudgeLaws.{accepted_sound, accepted_count}
 use Rattle.rules.specs.Answers.{inputs}

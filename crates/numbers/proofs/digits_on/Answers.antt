@@ -1,12 +1,8 @@
 -- `numbers::digits_on` meets its contract. The loop's invariant: the digits that are left go on from the value so far as the
 -- digits from the start do from the first value. Assumes nothing.
-use Prim.Native.Nat.{◌-◌, ◌≤◌}
-use mathlib.Core.Path.{◌≡◌, refl, sym, ◌∙◌}
-use lib.ListN.{length, drop}
-use Rattle.lines.specs.Numbers.{beyond, digits_on}
+use mathlib.Core.Path.{refl, sym, ◌∙◌}
 use Rattle.lines.proofs.NumberLaws.{digits_again, digits_stop, digits_end}
 use native.Mathlib.Omega.{arith}
-use borrow.Author.Rules.{rules}
 use Rattle.numbers.proofs.digits_on.Goals as goal
 
 pub loop-i-init : goal.loop-i-init

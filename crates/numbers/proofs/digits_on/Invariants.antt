@@ -1,12 +1,9 @@
 -- `numbers::digits_on` meets its contract. The loop's invariant: the digits that are left go on from the value so far as the
 -- digits from the start do from the first value. Assumes nothing.
 use Prim.Native.Nat.{◌-◌, ◌≤◌}
-use mathlib.Core.Path.{◌≡◌, refl, sym, ◌∙◌}
+use mathlib.Core.Path.{◌≡◌}
 use lib.ListN.{length, drop}
 use Rattle.lines.specs.Numbers.{beyond, digits_on}
-use Rattle.lines.proofs.NumberLaws.{digits_again, digits_stop, digits_end}
-use native.Mathlib.Omega.{arith}
-use borrow.Author.Rules.{rules}
 use Rattle.numbers.proofs.digits_on.Given as goal
 
 abbrev pub invariant-loop-i : goal.invariant-loop-i

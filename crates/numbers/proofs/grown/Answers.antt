@@ -1,7 +1,6 @@
 -- `numbers::grown` meets its contract. Assumes nothing.
 use Rattle.lines.proofs.NumberLaws.{digit_within}
 use native.Mathlib.Omega.{arith}
-use borrow.Author.Rules.{rules}
 use Rattle.numbers.proofs.grown.Goals as goal
 
 pub overflow_sub-more : goal.overflow_sub-more

@@ -3,7 +3,6 @@ use Prim.Native.Nat.{zero-le}
 use mathlib.Core.Path.{sym, ◌∙◌}
 use Rattle.lines.proofs.NumberLaws.{number_none, number_zero, number_digits, number_lacks}
 use native.Mathlib.Omega.{arith}
-use borrow.Author.Rules.{rules}
 use Rattle.numbers.proofs.number_at.Goals as goal
 
 pub returns-then-text-at : goal.returns-then-text-at

@@ -1,6 +1,5 @@
 -- `reader::faulty` meets its contract.
 use mathlib.Core.Path.{sym, ap, ◌∙◌}
-use borrow.Author.Rules.{rules}
 use Rattle.language.specs.declared.Part.{Part}
 use Rattle.language.specs.Limits.{faulty_word}
 use Rattle.language.specs.Readings.{refused}

@@ -1,11 +1,9 @@
 -- `reader::finish` meets its contract.
-use borrow.Author.Rules.{rules}
 use native.Mathlib.Omega.{arith}
 use Prim.Native.Nat.{◌*◌, ◌≤◌}
 use mathlib.Core.Path.{refl, sym, ◌∙◌}
 use lib.ListN.{length, take}
 use lib.Seq.{length-take-le}
-use Rattle.rules.specs.Judging.{judge}
 use Rattle.rules.proofs.AnswerLaws.{judged_as}
 use Rattle.leaves.proofs.CopyLaws.{copied_all}
 use Rattle.reader.proofs.WholeLaws.{made_as, made_again, made_many, made_judged, made_short, made_laid}

@@ -1,5 +1,4 @@
 -- `reader::read_body` meets its contract.
-use borrow.Author.Rules.{rules}
 use native.Mathlib.Omega.{arith}
 use Rattle.reader.specs.Machine.{at_finish}
 use Rattle.reader.proofs.TextLaws.{body_faulty, body_left, body_read, body_rows, reads_as}

@@ -1,5 +1,4 @@
 -- `reader::read_text` meets its contract.
-use borrow.Author.Rules.{rules}
 use mathlib.Core.Path.{refl}
 use Rattle.reader.proofs.TextLaws.{reads_long, head_faulty, reads_as}
 use Rattle.reader.proofs.read_text.Goals as goal

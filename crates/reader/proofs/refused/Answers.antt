@@ -1,5 +1,4 @@
 -- `reader::refused` meets its contract.
-use borrow.Author.Rules.{rules}
 use Prim.Native.Nat.{ℕ}
 use mathlib.Core.Path.{ap}
 use Rattle.rules.specs.Marks.{none}

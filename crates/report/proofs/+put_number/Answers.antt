@@ -1,8 +1,6 @@
 -- `report::put_number` meets its contract. The measure is the number. Assumes nothing.
 use native.Mathlib.Omega.{arith}
 use Rattle.report.proofs.WriteLaws.{placed_small, placed_more, placed_room}
-use borrow.Author.Rules.{rules}
-use Prim.Native.Nat.{ℕ, ◌<◌}
 use Rattle.report.proofs.+put_number.Goals as goal
 
 pub returns-then-n-lt10 : goal.returns-then-n-lt10

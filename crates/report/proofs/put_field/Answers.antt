@@ -1,6 +1,5 @@
 -- `report::put_field` meets its contract. Assumes nothing.
 use Rattle.report.proofs.ReportLaws.{placed_field}
-use borrow.Author.Rules.{rules}
 use Rattle.report.proofs.put_field.Goals as goal
 
 pub returns : goal.returns

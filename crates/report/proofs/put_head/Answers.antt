@@ -1,7 +1,6 @@
 -- `report::put_head` meets its contract. Assumes nothing.
 use Rattle.rules.proofs.MarkLaws.{marked_ones}
 use Rattle.report.proofs.ReportLaws.{placed_head}
-use borrow.Author.Rules.{rules}
 use Rattle.report.proofs.put_head.Goals as goal
 
 pub returns : goal.returns

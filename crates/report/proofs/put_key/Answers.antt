@@ -1,11 +1,9 @@
 -- `report::put_key` meets its contract. The loop's invariant: what is left of the key leads to the whole key in its place.
 -- Assumes nothing.
-use Prim.Native.Nat.{◌+◌, ◌-◌, ◌≤◌}
-use mathlib.Core.Path.{◌≡◌, refl}
-use lib.ListN.{length, drop, length-set}
-use Rattle.report.proofs.WriteLaws.{Leads, leads_start, leads_byte, leads_bytes}
+use mathlib.Core.Path.{refl}
+use lib.ListN.{length-set}
+use Rattle.report.proofs.WriteLaws.{leads_start, leads_byte, leads_bytes}
 use native.Mathlib.Omega.{arith}
-use borrow.Author.Rules.{rules}
 use Rattle.report.proofs.put_key.Goals as goal
 
 pub loop-j-init : goal.loop-j-init

@@ -1,6 +1,5 @@
 -- `report::put_line` meets its contract. Assumes nothing.
 use Rattle.report.proofs.ReportLaws.{placed_line}
-use borrow.Author.Rules.{rules}
 use Rattle.report.proofs.put_line.Goals as goal
 
 pub returns : goal.returns

@@ -1,6 +1,5 @@
 -- `report::put_memory` meets its contract. Assumes nothing.
 use Rattle.report.proofs.ReportLaws.{placed_memory}
-use borrow.Author.Rules.{rules}
 use Rattle.report.proofs.put_memory.Goals as goal
 
 pub returns : goal.returns

@@ -1,6 +1,5 @@
 -- `report::put_record` meets its contract. Assumes nothing.
 use Rattle.report.proofs.ReportLaws.{placed_record}
-use borrow.Author.Rules.{rules}
 use Rattle.report.proofs.put_record.Goals as goal
 
 pub returns : goal.returns

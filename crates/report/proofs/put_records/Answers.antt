@@ -1,14 +1,10 @@
 -- `report::put_records` meets its contract. The loop's invariant: the records from i on lead to all of them in their place.
 -- Assumes nothing.
-use Prim.Native.Nat.{◌+◌, ◌-◌, ◌*◌, ◌≤◌}
-use mathlib.Core.Path.{◌≡◌, refl, ◌∙◌}
-use lib.ListN.{length}
-use Rattle.report.specs.Reports.{records_text}
-use Rattle.report.specs.Written.{most_record, records_of}
-use Rattle.report.proofs.WriteLaws.{Leads}
-use Rattle.report.proofs.ReportLaws.{records_from, records_start, records_again, records_end}
+use Prim.Native.Nat.{◌*◌}
+use mathlib.Core.Path.{refl, ◌∙◌}
+use Rattle.report.specs.Written.{most_record}
+use Rattle.report.proofs.ReportLaws.{records_start, records_again, records_end}
 use native.Mathlib.Omega.{arith}
-use borrow.Author.Rules.{rules}
 use Rattle.report.proofs.put_records.Goals as goal
 
 pub loop-i-init : goal.loop-i-init
@@ -19,13 +15,12 @@ put_record-at-requires c =
     omega (arith, c.loop-i.invariant.1, c.loop-i.invariant.2, c.loop-i-test.true, c.requires.1)
 
 pub loop-i-preserved : goal.loop-i-preserved
-loop-i-preserved c =
-    (
-      omega (arith, c.loop-i-test.true),
-      omega (arith, c.loop-i.invariant.1, c.put_record-at.ensures.place, c.put_record-at.ensures.few),
-      c.put_record-at.auto.out ∙ c.loop-i.invariant.2,
-      records_again c.args.records c.args.trace.now c.loop-i.i c.requires.0 c.loop-i-test.true c.loop-i.invariant.3 c.put_record-at.ensures,
-    )
+loop-i-preserved c = (
+  omega (arith, c.loop-i-test.true),
+  omega (arith, c.loop-i.invariant.1, c.put_record-at.ensures.place, c.put_record-at.ensures.few),
+  c.put_record-at.auto.out ∙ c.loop-i.invariant.2,
+  records_again c.args.records c.args.trace.now c.loop-i.i c.requires.0 c.loop-i-test.true c.loop-i.invariant.3 c.put_record-at.ensures,
+)
 
 pub shape_of-out : goal.shape_of-out
 shape_of-out c = c.loop-i.invariant.2

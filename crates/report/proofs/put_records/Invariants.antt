@@ -1,14 +1,12 @@
 -- `report::put_records` meets its contract. The loop's invariant: the records from i on lead to all of them in their place.
 -- Assumes nothing.
 use Prim.Native.Nat.{◌+◌, ◌-◌, ◌*◌, ◌≤◌}
-use mathlib.Core.Path.{◌≡◌, refl, ◌∙◌}
+use mathlib.Core.Path.{◌≡◌}
 use lib.ListN.{length}
 use Rattle.report.specs.Reports.{records_text}
 use Rattle.report.specs.Written.{most_record, records_of}
 use Rattle.report.proofs.WriteLaws.{Leads}
-use Rattle.report.proofs.ReportLaws.{records_from, records_start, records_again, records_end}
-use native.Mathlib.Omega.{arith}
-use borrow.Author.Rules.{rules}
+use Rattle.report.proofs.ReportLaws.{records_from}
 use Rattle.report.proofs.put_records.Given as goal
 
 abbrev pub invariant-loop-i : goal.invariant-loop-i

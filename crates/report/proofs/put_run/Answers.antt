@@ -1,6 +1,5 @@
 -- `report::put_run` meets its contract. Assumes nothing.
 use Rattle.report.proofs.ReportLaws.{placed_run}
-use borrow.Author.Rules.{rules}
 use Rattle.report.proofs.put_run.Goals as goal
 
 pub returns : goal.returns

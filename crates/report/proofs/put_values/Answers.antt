@@ -1,15 +1,13 @@
 -- `report::put_values` meets its contract. The loop's invariant: the values from variable i on lead to all of them in their
 -- place. Assumes nothing.
-use Prim.Native.Nat.{◌+◌, ◌-◌, ◌*◌, ◌≤◌}
-use mathlib.Core.Path.{◌≡◌, refl, ◌∙◌}
-use lib.ListN.{length}
+use Prim.Native.Nat.{◌-◌, ◌*◌}
+use mathlib.Core.Path.{refl, ◌∙◌}
 use Rattle.rules.specs.Limits.{width}
 use Rattle.lines.specs.Lines.{comma}
 use Rattle.report.specs.Written.{most_field}
-use Rattle.report.proofs.WriteLaws.{Leads, leads_start}
+use Rattle.report.proofs.WriteLaws.{leads_start}
 use Rattle.report.proofs.ReportLaws.{values_from, values_again, values_end}
 use native.Mathlib.Omega.{arith}
-use borrow.Author.Rules.{rules}
 use Rattle.report.proofs.put_values.Goals as goal
 
 pub loop-i-init : goal.loop-i-init

@@ -2,7 +2,6 @@
 use Rattle.report.specs.Reports.{refusal_text}
 use Rattle.report.specs.Written.{most_refusal, refusal_written}
 use Rattle.report.proofs.ReportLaws.{placed_refusal, written_short, written_whole}
-use borrow.Author.Rules.{rules}
 use Rattle.report.proofs.write_refusal.Goals as goal
 
 pub returns-then-out-lt-REFUSAL_BYTES : goal.returns-then-out-lt-REFUSAL_BYTES

@@ -3,7 +3,6 @@ use mathlib.Core.Path.{refl, ◌∙◌}
 use Rattle.rules.specs.declared.Ended.{Ended}
 use Rattle.rules.proofs.MarkLaws.{none_zero}
 use Rattle.report.proofs.ReportLaws.{written_verdict, written_refused}
-use borrow.Author.Rules.{rules}
 use Rattle.report.proofs.write_report.Goals as goal
 
 pub returns-in-Done : goal.returns-in-Done

@@ -3,7 +3,6 @@ use mathlib.Core.Path.{◌∙◌}
 use Rattle.report.specs.Reports.{run_text}
 use Rattle.report.specs.Written.{most_run, whole_of}
 use Rattle.report.proofs.ReportLaws.{written_short, written_whole, run_lacking, run_counted}
-use borrow.Author.Rules.{rules}
 use Rattle.report.proofs.write_run.Goals as goal
 
 pub returns-then-trace-records : goal.returns-then-trace-records

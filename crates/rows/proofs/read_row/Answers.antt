@@ -1,7 +1,6 @@
 -- `rows::read_row` meets its contract.
 use native.Mathlib.Omega.{arith}
 use Rattle.rules.proofs.RowLaws.{row_within, row_read}
-use borrow.Author.Rules.{rules}
 use Rattle.rows.proofs.read_row.Goals as goal
 
 pub bounds-table-at : goal.bounds-table-at

@@ -3,7 +3,6 @@ use mathlib.Core.Path.{sym, ◌∙◌}
 use borrow.Author.Tests.{ltb-true, ltb-false}
 use Rattle.rules.specs.Rows.{rows_of}
 use Rattle.rules.proofs.RowLaws.{row_none}
-use borrow.Author.Rules.{rules}
 use Rattle.rows.proofs.row_at.Goals as goal
 
 pub read_row-requires : goal.read_row-requires

@@ -1,5 +1,4 @@
 -- `spans::handed_back` meets its contract. Assumes nothing.
-use borrow.Author.Rules.{rules}
 use Rattle.spans.proofs.WordLaws.{handed_within}
 use Rattle.spans.proofs.handed_back.Goals as goal
 

@@ -1,7 +1,6 @@
 -- `spans::is_joined` meets its contract. Assumes nothing.
 use mathlib.Core.Path.{sym, ◌∙◌}
 use native.Mathlib.Omega.{arith}
-use borrow.Author.Rules.{rules}
 use Rattle.spans.proofs.WordLaws.{joins_at, joins_not}
 use Rattle.spans.proofs.is_joined.Goals as goal
 

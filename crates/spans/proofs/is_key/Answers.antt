@@ -1,11 +1,7 @@
 -- `spans::is_key` meets its contract. The loop's invariant: what is left of the key is what is left of the word where the key
 -- is the word. Assumes nothing.
-use Prim.Native.Nat.{◌-◌}
 use native.Mathlib.Omega.{arith}
-use mathlib.Core.Path.{◌≡◌, refl, ◌∙◌}
-use lib.ListN.{length, drop}
-use borrow.Author.Rules.{rules}
-use Rattle.language.specs.Tokens.{same}
+use mathlib.Core.Path.{refl, ◌∙◌}
 use Rattle.spans.proofs.WordLaws.{same_again, same_differs, same_end, same_lengths}
 use Rattle.spans.proofs.is_key.Goals as goal
 

@@ -1,13 +1,8 @@
 -- `spans::joined_to` meets its contract. The loop's invariant: letters and digits stand up to the place reached. Assumes nothing.
-use Prim.Native.Nat.{ℕ, ◌-◌, ◌≤◌, ◌<◌}
 use native.Mathlib.Omega.{arith}
-use mathlib.Core.Bool.{true}
-use mathlib.Core.Path.{◌≡◌, sym, ◌∙◌}
-use lib.ListN.{length, get_or}
+use mathlib.Core.Path.{sym, ◌∙◌}
 use borrow.Author.Count.{below_more}
 use borrow.Author.Rules.{rules}
-use borrow.Author.Tests.{not-true, not-false}
-use Rattle.language.specs.Words.{is_joining}
 use Rattle.spans.proofs.joined_to.Goals as goal
 
 pub loop-i-init : goal.loop-i-init

@@ -1,12 +1,8 @@
 -- `spans::joined_to` meets its contract. The loop's invariant: letters and digits stand up to the place reached. Assumes nothing.
 use Prim.Native.Nat.{ℕ, ◌-◌, ◌≤◌, ◌<◌}
-use native.Mathlib.Omega.{arith}
 use mathlib.Core.Bool.{true}
-use mathlib.Core.Path.{◌≡◌, sym, ◌∙◌}
+use mathlib.Core.Path.{◌≡◌}
 use lib.ListN.{length, get_or}
-use borrow.Author.Count.{below_more}
-use borrow.Author.Rules.{rules}
-use borrow.Author.Tests.{not-true, not-false}
 use Rattle.language.specs.Words.{is_joining}
 use Rattle.spans.proofs.joined_to.Given as goal
 

@@ -1,13 +1,9 @@
 -- `spans::start_at` meets its contract. The loop's invariant: the words from the place reached on are those from the first
 -- place on. Assumes nothing.
 use Prim.Native.Nat.{◌-◌, ◌≤◌}
-use native.Mathlib.Omega.{arith}
-use mathlib.Core.Path.{◌≡◌, refl, sym, ◌∙◌}
+use mathlib.Core.Path.{◌≡◌}
 use lib.ListN.{length}
-use borrow.Author.Rules.{rules}
-use borrow.Author.Tests.{not-true, not-false}
 use Rattle.spans.specs.Cut.{from}
-use Rattle.spans.proofs.WordLaws.{words_blank, words_end}
 use Rattle.spans.proofs.start_at.Given as goal
 
 abbrev pub invariant-loop-i : goal.invariant-loop-i

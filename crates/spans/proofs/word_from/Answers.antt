@@ -1,6 +1,5 @@
 -- `spans::word_from` meets its contract. Assumes nothing.
 use mathlib.Core.Path.{sym, ◌∙◌}
-use borrow.Author.Rules.{rules}
 use Rattle.spans.proofs.WordLaws.{cut_run, cut_one}
 use Rattle.spans.proofs.word_from.Goals as goal
 

@@ -1,6 +1,5 @@
 -- `spans::word_part` meets its contract. Assumes nothing.
 use native.Mathlib.Omega.{arith}
-use borrow.Author.Rules.{rules}
 use Rattle.spans.proofs.WordLaws.{part_within, part_none}
 use Rattle.spans.proofs.word_part.Goals as goal
 

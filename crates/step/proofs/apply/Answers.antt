@@ -3,7 +3,6 @@ use borrow.Enum.Refused.{opened}
 use Rattle.rules.specs.Rows.{rows_of}
 use Rattle.rules.proofs.RowLaws.{output_left}
 use Rattle.step.proofs.ArmLaws.{sort, arm_skip, assign_needs, arm_assign, if_needs, arm_if, while_needs, arm_while, output_needs, arm_output}
-use borrow.Author.Rules.{rules}
 use Rattle.step.proofs.apply.Goals as goal
 
 pub assign-requires : goal.assign-requires

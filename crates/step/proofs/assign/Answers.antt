@@ -7,7 +7,6 @@ use Rattle.rules.specs.Rows.{rows_of}
 use Rattle.rules.specs.Trees.{expr_at}
 use Rattle.step.specs.declared.Held.{Held}
 use Rattle.step.proofs.ArrayLaws.{value_found, marks_found}
-use borrow.Author.Rules.{rules}
 use Rattle.step.proofs.assign.Goals as goal
 
 same : (h : Held) {m m' : ℕ} → m ≡ m' → ◌≡◌ {A = Held} (record { pending = h.pending - 1; pile = h.pile; records = h.records; marks = m }) (record { pending = h.pending - 1; pile = h.pile; records = h.records; marks = m' })

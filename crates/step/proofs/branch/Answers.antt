@@ -2,7 +2,6 @@
 use Rattle.rules.specs.Rows.{rows_of}
 use Rattle.rules.specs.Trees.{expr_at}
 use Rattle.step.proofs.ArrayLaws.{level_found, found_holds, found_fails}
-use borrow.Author.Rules.{rules}
 use Rattle.step.proofs.branch.Goals as goal
 
 pub returns-then-test-ne0 : goal.returns-then-test-ne0

@@ -8,7 +8,6 @@ use borrow.Author.Tests.{eq-eqb, ne_eqb}
 use Rattle.rules.specs.Marks.{union}
 use Rattle.step.specs.Turns.{passed}
 use Rattle.step.specs.declared.Held.{Held}
-use borrow.Author.Rules.{rules}
 use Rattle.step.proofs.closed_held.Goals as goal
 
 -- what is held after a close, by whether the pile is empty

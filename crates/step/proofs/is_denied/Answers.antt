@@ -4,7 +4,6 @@ use lib.Dec.{eqb}
 use Rattle.rules.specs.Marks.{provisional}
 use mathlib.Core.Path.{sym, ap, ◌∙◌}
 use borrow.Author.Tests.{eq-eqb, ne_eqb}
-use borrow.Author.Rules.{rules}
 use Rattle.step.proofs.is_denied.Goals as goal
 
 pub returns-then-channel-ne0 : goal.returns-then-channel-ne0

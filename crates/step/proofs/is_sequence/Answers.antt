@@ -3,7 +3,6 @@ use borrow.Enum.Refused.{opened}
 use mathlib.Core.Bool.{true≢false}
 use mathlib.Core.Path.{sym}
 use Rattle.rules.proofs.RowLaws.{not_sequence}
-use borrow.Author.Rules.{rules}
 use Rattle.step.proofs.is_sequence.Goals as goal
 
 pub returns-in-Sequence : goal.returns-in-Sequence

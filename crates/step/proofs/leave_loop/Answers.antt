@@ -1,7 +1,6 @@
 -- `step::leave_loop` meets its contract.
 use Rattle.rules.specs.Rows.{rows_of}
 use Rattle.step.proofs.ArrayLaws.{opened_leave}
-use borrow.Author.Rules.{rules}
 use Rattle.step.proofs.leave_loop.Goals as goal
 
 pub returns : goal.returns

@@ -3,7 +3,6 @@ use Rattle.rules.specs.Rows.{rows_of}
 use Rattle.rules.specs.Trees.{expr_at}
 use native.Mathlib.Omega.{arith}
 use Rattle.step.proofs.ArrayLaws.{ready_less, level_found, found_holds, found_fails}
-use borrow.Author.Rules.{rules}
 use Rattle.step.proofs.loop_on.Goals as goal
 
 pub returns-then-test-ne0 : goal.returns-then-test-ne0

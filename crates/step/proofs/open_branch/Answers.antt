@@ -2,7 +2,6 @@
 use native.Mathlib.Omega.{arith}
 use Rattle.rules.specs.Rows.{rows_of}
 use Rattle.step.proofs.ArrayLaws.{opened_branch}
-use borrow.Author.Rules.{rules}
 use Rattle.step.proofs.open_branch.Goals as goal
 
 pub overflow_cast-entries : goal.overflow_cast-entries

@@ -1,7 +1,6 @@
 -- `step::push_none` meets its contract.
 use mathlib.Core.Path.{sym, ◌∙◌}
 use Rattle.step.proofs.ArrayLaws.{pushed_law, unpushed_law}
-use borrow.Author.Rules.{rules}
 use Rattle.step.proofs.push_none.Goals as goal
 
 pub returns-then-is_guarded : goal.returns-then-is_guarded

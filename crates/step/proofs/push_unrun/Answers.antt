@@ -4,7 +4,6 @@ use Prim.Native.Nat.{ℕ, ◌+◌}
 use lib.ListN.{set}
 use Rattle.step.specs.Turns.{Pushed}
 use Rattle.step.proofs.ArrayLaws.{pushed_law, unpushed_law}
-use borrow.Author.Rules.{rules}
 use Rattle.step.proofs.push_unrun.Goals as goal
 
 pub returns-then-is_guarded : goal.returns-then-is_guarded

@@ -1,13 +1,10 @@
 -- `step::step` meets its contract.
 use borrow.Enum.Refused.{opened}
 use native.Mathlib.Omega.{arith}
-use Prim.Native.Nat.{◌-◌, ◌<◌}
 use mathlib.Core.Path.{refl}
-use lib.ListN.{length, get_or}
 use Rattle.rules.specs.Rows.{rows_of}
 use Rattle.step.specs.Denoted.{arrays}
 use Rattle.step.proofs.ArmLaws.{few_entries, few_sets, arm_close, found_next, holds_apart, went_apart, unwent_apart}
-use borrow.Author.Rules.{rules}
 use Rattle.step.proofs.step.Goals as goal
 
 pub offset_bounds-entries-n : goal.offset_bounds-entries-n

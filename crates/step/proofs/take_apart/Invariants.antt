@@ -1,11 +1,6 @@
 -- `step::take_apart` meets its contract.
-use Prim.Native.Nat.{◌<◌}
-use mathlib.Core.Path.{sym, subst}
-use native.Mathlib.Omega.{arith}
-use Rattle.rules.specs.Limits.{most_rows}
 use Rattle.rules.specs.Rows.{rows_of}
 use Rattle.step.specs.Turns.{Apart, Found}
-use Rattle.step.proofs.StepLaws.{apart_none, OneMore, apart_more}
 use Rattle.step.proofs.take_apart.Given as goal
 
 abbrev pub invariant-loop-i : goal.invariant-loop-i

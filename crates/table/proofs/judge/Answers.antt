@@ -9,7 +9,6 @@ use Rattle.rules.specs.Rows.{rows_of}
 use Rattle.rules.specs.Judging.{wrong_count}
 use Rattle.rules.proofs.JudgeLaws.{rows_length, right_count, judge_count, judge_first, or_else_stops, or_else_passes}
 use Rattle.rules.proofs.AnswerLaws.{judged_said}
-use borrow.Author.Rules.{rules}
 use Rattle.table.proofs.judge.Goals as goal
 
 -- where refusal 1 does not apply, the rows are counted

@@ -1,6 +1,5 @@
 -- The proof of the cycle of calls {may_assign_lent}: the row number falls, and each arm is one kind of statement.
 use borrow.Enum.Refused.{opened}
-use borrow.Author.Rules.{rules}
 use native.Mathlib.Omega.{arith}
 use native.Mathlib.Nat.{mod-eq_of_lt}
 use mathlib.Core.Path.{◌≡◌, sym, ap, ap₂, ◌∙◌}

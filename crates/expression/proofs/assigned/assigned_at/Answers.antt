@@ -1,19 +1,16 @@
 -- `expression::assigned::assigned_at` meets its contract: refused as judged, none for a row that is not there, else what `may_assign` finds.
 use Prim.Native.Nat.{◌<◌}
-use mathlib.Core.Path.{◌≡◌, refl, sym, ap, ap₂, ◌∙◌}
+use mathlib.Core.Path.{refl, sym, ap, ap₂, ◌∙◌}
 use native.Mathlib.Omega.{arith}
 use lib.ListN.{length}
-use borrow.Author.Tests.{ltb-true, ltb-false, not-true, not-false}
-use Rattle.rules.specs.declared.Judged.{Judged}
+use borrow.Author.Tests.{ltb-true, ltb-false}
 use Rattle.rules.specs.Rows.{rows_of}
-use Rattle.rules.specs.Judging.{judge}
 use Rattle.rules.specs.Values.{may_assign}
 use Rattle.rules.proofs.JudgeLaws.{accepted_sound}
 use Rattle.rules.proofs.AnswerLaws.{judged_as}
 use Rattle.rules.proofs.TreeLaws.{stmt_absent}
 use Rattle.rules.proofs.ValueLaws.{may_skip}
 use Rattle.expression.specs.Assigned.{variables_or}
-use borrow.Author.Rules.{rules}
 use Rattle.expression.proofs.assigned.assigned_at.Goals as goal
 
 pub returns-in-Refused : goal.returns-in-Refused

@@ -1,13 +1,11 @@
 -- The proof of the cycle of calls {evaluate_lent}: the row number falls, and each arm is one kind of expression.
 use borrow.Enum.Refused.{opened}
-use borrow.Author.Rules.{rules}
 use native.Mathlib.Omega.{arith}
 use native.Mathlib.Nat.{mod-eq_of_lt}
 use mathlib.Core.Path.{◌≡◌, sym, ap, ◌∙◌}
 use lib.ListN.{length}
 use mathlib.Core.List.{List}
 use Rattle.rules.specs.declared.Row.{Row}
-use Rattle.rules.specs.Limits.{width}
 use Rattle.rules.specs.Rows.{row_at}
 use Rattle.rules.specs.Trees.{Expr, variable, expr_at, expr_node}
 use Rattle.rules.specs.Sound.{Sound}

@@ -1,6 +1,5 @@
 -- `expression::values::evaluate` meets its contract.
 use mathlib.Core.Path.{◌∙◌}
-use borrow.Author.Rules.{rules}
 use Rattle.expression.proofs.values.evaluate.Goals as goal
 
 pub returns : goal.returns

@@ -4,7 +4,6 @@ use mathlib.Core.Path.{ap, ◌∙◌}
 use lib.Bits.{bit_and}
 use Rattle.rules.specs.Limits.{width}
 use Rattle.expression.proofs.ValuedLaws.{valued_variable}
-use borrow.Author.Rules.{rules}
 use Rattle.expression.proofs.values.read_variable.Goals as goal
 
 pub returns : goal.returns

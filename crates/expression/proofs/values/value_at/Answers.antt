@@ -1,13 +1,10 @@
 -- `expression::values::value_at` meets its contract: refused as judged, the constant 0 for a row that is not there, else what `evaluate` finds.
 use Prim.Native.Nat.{◌<◌}
-use mathlib.Core.Path.{◌≡◌, refl, sym, ap, ap₂, ◌∙◌}
+use mathlib.Core.Path.{refl, sym, ap, ap₂, ◌∙◌}
 use lib.ListN.{length}
 use native.Mathlib.Omega.{arith}
-use borrow.Author.Tests.{ltb-true, ltb-false, not-true, not-false}
-use Rattle.rules.specs.declared.Judged.{Judged}
-use Rattle.rules.specs.Limits.{width}
+use borrow.Author.Tests.{ltb-true, ltb-false}
 use Rattle.rules.specs.Rows.{rows_of}
-use Rattle.rules.specs.Judging.{judge}
 use Rattle.rules.proofs.JudgeLaws.{accepted_sound}
 use Rattle.rules.proofs.AnswerLaws.{judged_as}
 use Rattle.rules.proofs.TreeLaws.{expr_absent}

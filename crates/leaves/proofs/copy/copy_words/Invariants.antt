@@ -1,6 +1,5 @@
 -- `leaves::copy::copy_words` meets its contract: after i turns the first i words are copied.
-use Rattle.std.proofs.Common.{◌≡◌, ℕ, ◌-◌, ◌<◌, ◌≤◌, min, List, ◌++◌, length, get_or, take, drop, set, refl, ap, ◌∙◌, arith, length-set, rules}
-use Rattle.leaves.proofs.CopyLaws.{copied_more}
+use Rattle.std.proofs.Common.{◌≡◌, ◌-◌, ◌≤◌, min, ◌++◌, length, take, drop}
 use Rattle.leaves.proofs.copy.copy_words.Given as goal
 
 abbrev pub invariant-loop-i : goal.invariant-loop-i

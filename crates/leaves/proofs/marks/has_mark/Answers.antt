@@ -1,5 +1,5 @@
 -- `leaves::marks::has_mark` meets its contract.
-use Rattle.std.proofs.Common.{ℕ, ◌%◌, not, eqb, sym, ap, ◌∙◌, rules}
+use Rattle.std.proofs.Common.{ℕ, ◌%◌, not, eqb, sym, ap, ◌∙◌}
 use lib.Bits.{bit_and}
 use Rattle.rules.specs.Limits.{width}
 use Rattle.rules.proofs.MarkLaws.{has_bit, only_power}

@@ -1,5 +1,5 @@
 -- `leaves::marks::mark_as` meets its contract.
-use Rattle.std.proofs.Common.{◌%◌, Bool, sym, ap, ◌∙◌, rules}
+use Rattle.std.proofs.Common.{◌%◌, Bool, sym, ap, ◌∙◌}
 use Rattle.rules.specs.Limits.{width}
 use Rattle.rules.specs.Marks.{put}
 use Rattle.leaves.proofs.marks.mark_as.Goals as goal

@@ -1,5 +1,5 @@
 -- `leaves::marks::with_mark` meets its contract.
-use Rattle.std.proofs.Common.{◌%◌, sym, ap, ◌∙◌, rules}
+use Rattle.std.proofs.Common.{◌%◌, sym, ap, ◌∙◌}
 use lib.Bits.{bit_or}
 use Rattle.rules.specs.Limits.{width}
 use Rattle.rules.proofs.MarkLaws.{put_true, only_power}

@@ -1,5 +1,5 @@
 -- `leaves::operators::quotient` meets its contract.
-use Rattle.std.proofs.Common.{sym, rules}
+use Rattle.std.proofs.Common.{sym}
 use Rattle.rules.proofs.ValueLaws.{quotient_none, quotient_law}
 use Rattle.leaves.proofs.operators.quotient.Goals as goal
 

@@ -1,5 +1,4 @@
 -- `levels::provisional::is_guarded` meets its contract.
-use borrow.Author.Rules.{rules}
 use mathlib.Core.Bool.{Bool, ◌||◌, or-true, or-false}
 use mathlib.Core.Path.{sym, ap, ◌∙◌}
 use Rattle.rules.specs.Marks.{provisional}

@@ -4,7 +4,6 @@
 -- ---- walk_loop
 -- ---- walk_part
 use borrow.Enum.Refused.{opened}
-use borrow.Author.Rules.{rules}
 use native.Mathlib.Omega.{arith}
 use native.Mathlib.Nat.{mod-eq_of_lt}
 use mathlib.Core.Bool.{Bool}
@@ -13,7 +12,6 @@ use mathlib.Core.Path.{◌≡◌, refl, sym, ap, ◌∙◌}
 use lib.ListN.{length}
 use Rattle.rules.specs.declared.Kind.{Kind}
 use Rattle.rules.specs.declared.Row.{Row}
-use Rattle.rules.specs.Limits.{width, most_rows}
 use Rattle.rules.specs.Marks.{put}
 use Rattle.rules.specs.Rows.{rows_of, row_at}
 use Rattle.rules.specs.Trees.{Stmt, expr_at, stmt_at, stmt_node}
@@ -28,7 +26,7 @@ use Rattle.levels.specs.declared.walk.Found.{Found}
 use Rattle.levels.specs.Found.{found_of}
 use Rattle.levels.specs.Pending.{Room, Kept}
 use Rattle.levels.proofs.FoundLaws.{skip_left, found_assign, found_if, found_output, rests_here, goes_on, over_here}
-use Rattle.levels.proofs.PendingLaws.{kept_same, kept_on, room_on, taking, taking_part, left, UnderWay, way_start, room_here, place, within_here, second_small, way_apart, apart_less, kept_here, way_end, way_on, on_less}
+use Rattle.levels.proofs.PendingLaws.{kept_same, kept_on, room_on, taking_part, way_start, room_here, place, within_here, second_small, way_apart, apart_less, kept_here, way_end, way_on, on_less}
 use Prim.Native.Nat.{ℕ, ◌+◌, ◌*◌, ◌<◌}
 use Rattle.levels.proofs.walk.+walks.Goals as goal
 
@@ -144,8 +142,8 @@ pub walk_loop-returns-then-grown-set : goal.walk_loop-returns-then-grown-set
 walk_loop-returns-then-grown-set t c =
     let a = c.args in
     let turned :
-        c.walk_lent-turn.result
-        ≡ found_of (rule.walk (stmt_at (rows_of a.table.now.now) a.body) (under (expr_at (rows_of a.table.now.now) a.test) a.context c.loop-left.set) c.loop-left.set) =
+    c.walk_lent-turn.result
+    ≡ found_of (rule.walk (stmt_at (rows_of a.table.now.now) a.body) (under (expr_at (rows_of a.table.now.now) a.test) a.context c.loop-left.set) c.loop-left.set) =
     c.walk_lent-turn.ensures.found
     ∙ ap (λ (b : Bool). found_of (rule.walk (stmt_at (rows_of a.table.now.now) a.body) b c.loop-left.set)) c.is_guarded-inside.ensures in
     record {
@@ -163,11 +161,10 @@ pub walk_loop-loop-left-preserved : goal.walk_loop-loop-left-preserved
 walk_loop-loop-left-preserved t c =
     let a = c.args in
     let turned :
-        c.walk_lent-turn.result
-        ≡ found_of (rule.walk (stmt_at (rows_of a.table.now.now) a.body) (under (expr_at (rows_of a.table.now.now) a.test) a.context c.loop-left.set) c.loop-left.set) =
+    c.walk_lent-turn.result
+    ≡ found_of (rule.walk (stmt_at (rows_of a.table.now.now) a.body) (under (expr_at (rows_of a.table.now.now) a.test) a.context c.loop-left.set) c.loop-left.set) =
     c.walk_lent-turn.ensures.found
-    ∙ ap (λ (b : Bool). found_of (rule.walk (stmt_at (rows_of a.table.now.now) a.body) b c.loop-left.set)) c.is_guarded-inside.ensures in
-    (
+    ∙ ap (λ (b : Bool). found_of (rule.walk (stmt_at (rows_of a.table.now.now) a.body) b c.loop-left.set)) c.is_guarded-inside.ensures in (
       goes_on _ _ _ _ c.loop-left.invariant.0 _ _ c.loop-left-test.true turned c.joined-grown.ensures c.if-grown-set.false,
       kept_on c.loop-left.invariant.1 (omega arith) c.walk_lent-turn.ensures.kept,
     )

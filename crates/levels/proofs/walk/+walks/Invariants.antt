@@ -1,29 +1,17 @@
-use borrow.Author.Rules.{rules}
-use native.Mathlib.Omega.{arith}
-use native.Mathlib.Nat.{mod-eq_of_lt}
 use mathlib.Core.Bool.{Bool}
 use mathlib.Core.List.{List}
-use mathlib.Core.Path.{◌≡◌, refl, sym, ap, ◌∙◌}
-use lib.ListN.{length}
-use Rattle.rules.specs.declared.Kind.{Kind}
+use mathlib.Core.Path.{◌≡◌}
 use Rattle.rules.specs.declared.Row.{Row}
-use Rattle.rules.specs.Limits.{width, most_rows}
-use Rattle.rules.specs.Marks.{put}
+use Rattle.rules.specs.Limits.{width}
 use Rattle.rules.specs.Rows.{rows_of}
-use Rattle.rules.specs.Trees.{Stmt, expr_at, stmt_at, stmt_node}
+use Rattle.rules.specs.Trees.{expr_at, stmt_at}
 use Rattle.rules.specs.LevelRules.{under}
 use Rattle.rules.specs.LevelCheck.{Walked, rounds}
 use Rattle.rules.specs.LevelCheck as rule
-use Rattle.rules.specs.Sound.{SoundRow, Sound}
-use Rattle.rules.proofs.MarkLaws.{union_or}
-use Rattle.rules.proofs.RowLaws.{kind_arm, not_sequence}
-use Rattle.rules.proofs.TreeLaws.{sound_as, stmt_of_row, stmt_arms, assign_words, if_words, while_words, output_words}
-use Rattle.levels.specs.declared.walk.Found.{Found}
 use Rattle.levels.specs.Found.{found_of}
-use Rattle.levels.specs.Pending.{Room, Kept}
-use Rattle.levels.proofs.FoundLaws.{skip_left, found_assign, found_if, found_output, rests_here, goes_on, over_here}
-use Rattle.levels.proofs.PendingLaws.{kept_same, kept_on, room_on, taking, taking_part, left, UnderWay, way_start, room_here, place, within_here, second_small, way_apart, apart_less, kept_here, way_end, way_on, on_less}
-use Prim.Native.Nat.{ℕ, ◌+◌, ◌*◌, ◌<◌}
+use Rattle.levels.specs.Pending.{Kept}
+use Rattle.levels.proofs.PendingLaws.{left, UnderWay}
+use Prim.Native.Nat.{ℕ, ◌+◌, ◌*◌}
 use Rattle.levels.proofs.walk.+walks.Given as goal
 
 abbrev turns : List Row → ℕ → ℕ → Bool → ℕ → Walked

@@ -1,5 +1,4 @@
 -- `levels::walk::failing_at` meets its contract.
-use borrow.Author.Rules.{rules}
 use mathlib.Core.Path.{sym, ◌∙◌}
 use Rattle.levels.proofs.FoundLaws.{passes_elsewhere, fails_guarded, passes_settled}
 use Rattle.levels.proofs.walk.failing_at.Goals as goal

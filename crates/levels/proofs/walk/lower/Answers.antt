@@ -1,5 +1,4 @@
 -- `levels::walk::lower` meets its contract.
-use borrow.Author.Rules.{rules}
 use Rattle.levels.proofs.FoundLaws.{lower_other, lower_second, lower_first}
 use Rattle.levels.proofs.walk.lower.Goals as goal
 

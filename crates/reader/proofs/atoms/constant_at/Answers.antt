@@ -1,5 +1,4 @@
 -- `reader::atoms::constant_at` meets its contract. Assumes nothing.
-use borrow.Author.Rules.{rules}
 use Rattle.reader.proofs.AtomLaws.{constant_told}
 use Rattle.reader.proofs.atoms.constant_at.Goals as goal
 

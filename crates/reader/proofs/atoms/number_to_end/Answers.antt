@@ -1,10 +1,6 @@
 -- `reader::atoms::number_to_end` meets its contract. Assumes nothing.
-use Prim.Native.Nat.{ℕ}
 use native.Mathlib.Omega.{arith}
-use mathlib.Core.Path.{◌≡◌, sym, ap, ◌∙◌}
-use lib.ListN.{drop}
-use borrow.Author.Rules.{rules}
-use Rattle.lines.specs.Numbers.{number, number_at}
+use mathlib.Core.Path.{sym, ap, ◌∙◌}
 use Rattle.numbers.specs.Read.{field_said, next_of}
 use Rattle.reader.proofs.AtomLaws.{to_none, to_over, to_joined, to_is}
 use Rattle.reader.proofs.atoms.number_to_end.Goals as goal

@@ -4,7 +4,6 @@ use Rattle.rules.specs.declared.Operator.{Operator}
 use Rattle.language.specs.Tables.{operator_number}
 use Rattle.reader.proofs.KeyLaws.{spelling}
 use Rattle.reader.proofs.AtomLaws.{sign_is, no_sign}
-use borrow.Author.Rules.{rules}
 use Rattle.reader.proofs.atoms.sign_at.Goals as goal
 
 pub returns-then-is_word : goal.returns-then-is_word
@@ -69,16 +68,15 @@ returns-then-is_word-6 c =
 
 pub returns : goal.returns
 unfolding spelling
-returns c =
-    (
-      (λ shown w cut. (
-        no_sign _ (sym (c.is_word.ensures.0 refl shown w cut).0 ∙ c.if-is_word.false)
-            (sym (c.is_word-2.ensures.0 refl shown w cut).0 ∙ c.if-is_word-2.false)
-            (sym (c.is_word-3.ensures.0 refl shown w cut).0 ∙ c.if-is_word-3.false)
-            (sym (c.is_word-4.ensures.0 refl shown w cut).0 ∙ c.if-is_word-4.false)
-            (sym (c.is_word-5.ensures.0 refl shown w cut).0 ∙ c.if-is_word-5.false)
-            (sym (c.is_word-6.ensures.0 refl shown w cut).0 ∙ c.if-is_word-6.false),
-        λ some. absurd (some refl),
-      )),
-      λ some. absurd (some refl),
-    )
+returns c = (
+  (λ shown w cut. (
+    no_sign _ (sym (c.is_word.ensures.0 refl shown w cut).0 ∙ c.if-is_word.false)
+        (sym (c.is_word-2.ensures.0 refl shown w cut).0 ∙ c.if-is_word-2.false)
+        (sym (c.is_word-3.ensures.0 refl shown w cut).0 ∙ c.if-is_word-3.false)
+        (sym (c.is_word-4.ensures.0 refl shown w cut).0 ∙ c.if-is_word-4.false)
+        (sym (c.is_word-5.ensures.0 refl shown w cut).0 ∙ c.if-is_word-5.false)
+        (sym (c.is_word-6.ensures.0 refl shown w cut).0 ∙ c.if-is_word-6.false),
+    λ some. absurd (some refl),
+  )),
+  λ some. absurd (some refl),
+)

@@ -1,6 +1,5 @@
 -- `reader::atoms::variable_at` meets its contract. Assumes nothing.
 use native.Mathlib.Omega.{arith}
-use borrow.Author.Rules.{rules}
 use Rattle.reader.proofs.AtomLaws.{variable_absent, variable_other, variable_told}
 use Rattle.reader.proofs.atoms.variable_at.Goals as goal
 

@@ -1,6 +1,5 @@
 -- `reader::expressions::begin` meets its contract. Assumes nothing.
 use native.Mathlib.Omega.{arith}
-use borrow.Author.Rules.{rules}
 use Rattle.reader.proofs.TurnLaws.{begun_opening, begun_variable, begun_constant, begun_nothing}
 use Rattle.reader.proofs.expressions.begin.Goals as goal
 

@@ -2,8 +2,6 @@
 use Prim.Native.Nat.{ℕ, ◌-◌}
 use native.Mathlib.Omega.{arith}
 use mathlib.Core.Path.{refl, ap₂, ◌∙◌}
-use borrow.Author.Tests.{not-true, not-false}
-use borrow.Author.Rules.{rules}
 use Rattle.reader.specs.Rows.{row_put}
 use Rattle.reader.proofs.TurnLaws.{over_few, over_sign, over_unsigned, over_closing, over_unclosed}
 use Rattle.reader.proofs.expressions.go_on.Goals as goal

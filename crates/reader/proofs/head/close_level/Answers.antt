@@ -4,7 +4,6 @@ use Rattle.language.specs.Tokens as token
 use Rattle.reader.specs.Statements.{Expected}
 use Rattle.reader.proofs.SpellLaws.{spells_semicolon}
 use Rattle.reader.proofs.PlaceLaws.{lacks_word}
-use borrow.Author.Rules.{rules}
 use Rattle.reader.proofs.head.close_level.Goals as goal
 
 pub returns-in-Next : goal.returns-in-Next

@@ -1,7 +1,6 @@
 -- `reader::head::is_first_again` meets its contract. Assumes nothing.
 use mathlib.Core.Path.{◌∙◌}
 use Rattle.reader.proofs.HeadLaws.{first_again_no, first_again_yes}
-use borrow.Author.Rules.{rules}
 use Rattle.reader.proofs.head.is_first_again.Goals as goal
 
 pub returns-then-s-ne0 : goal.returns-then-s-ne0

@@ -1,12 +1,9 @@
 -- `reader::head::read_head` meets its contract. The loop's invariant: these declarations stand at the front of the text. The measure
 -- is what is left of the text. Assumes nothing.
-use Prim.Native.Nat.{◌-◌, ◌<◌}
 use mathlib.Core.Path.{subst}
-use lib.ListN.{length}
-use borrow.Author.Rules.{rules}
 use Rattle.language.specs.Tokens as token
 use Rattle.reader.specs.Statements.{Expected}
-use Rattle.reader.specs.Heads.{DeclarationRead, Declarations}
+use Rattle.reader.specs.Heads.{DeclarationRead}
 use Rattle.reader.proofs.SpellLaws.{spells_input}
 use Rattle.reader.proofs.HeadLaws.{head_none, head_more, head_faulty}
 use Rattle.reader.proofs.head.read_head.Goals as goal

@@ -2,7 +2,6 @@
 use Rattle.reader.proofs.SpellLaws.{spells_semicolon, spells_settled, spells_provisional}
 use Rattle.reader.proofs.PlaceLaws.{led_key, missing_key}
 use Rattle.reader.proofs.HeadLaws.{level_plain, level_settled, level_provisional, level_none}
-use borrow.Author.Rules.{rules}
 use Rattle.reader.proofs.head.read_level.Goals as goal
 
 pub returns-then-is_key : goal.returns-then-is_key

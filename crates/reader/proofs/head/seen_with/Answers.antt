@@ -2,7 +2,6 @@
 use mathlib.Core.Path.{sym, ◌∙◌}
 use mathlib.Core.Bool.{true, false}
 use Rattle.reader.proofs.HeadLaws.{seen_more}
-use borrow.Author.Rules.{rules}
 use Rattle.reader.proofs.head.seen_with.Goals as goal
 
 pub returns-then-is_first_again : goal.returns-then-is_first_again

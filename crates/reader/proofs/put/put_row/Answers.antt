@@ -1,7 +1,6 @@
 -- `reader::put::put_row` meets its contract. Assumes nothing.
 use mathlib.Core.Path.{sym}
 use Rattle.reader.proofs.RowLaws.{row_beyond, row_sets}
-use borrow.Author.Rules.{rules}
 use Rattle.reader.proofs.put.put_row.Goals as goal
 
 pub returns-then-row-ge-MOST_ROWS : goal.returns-then-row-ge-MOST_ROWS

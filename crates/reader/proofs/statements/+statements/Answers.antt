@@ -1,21 +1,15 @@
 -- The proof of the cycle of calls {read_block, read_if, read_statement, read_while}: the text that remains falls. Each
 -- answer is a law of the statement that was read as far as that.
-use Prim.Native.Nat.{ℕ, ◌+◌, ◌*◌, ◌-◌, ◌<◌}
-use borrow.Author.Rules.{rules}
 use native.Mathlib.Omega.{arith}
-use mathlib.Core.Bool.{Bool, true, false}
-use mathlib.Core.List.{List, [], ◌∷◌}
-use mathlib.Core.Path.{◌≡◌, refl}
-use lib.ListN.{length, get_or}
+use mathlib.Core.List.{[], ◌∷◌}
+use mathlib.Core.Path.{refl}
 use Rattle.language.specs.Tokens as word
 use Rattle.language.specs.Tokens.{Token}
-use Rattle.reader.specs.Machine.{at_else, at_end, expr, statement, exactly, rest}
-use Rattle.reader.specs.Steps.{Missing, expressions, statements, blocks, Asked, Read, Stepped, Over}
-use Rattle.reader.specs.declared.expressions.Step.{Step}
-use Rattle.reader.specs.Statements.{Compared, Spells, Led, Outputs}
+use Rattle.reader.specs.Machine.{at_else, at_end, statement, rest}
+use Rattle.reader.specs.Statements.{Outputs}
 use Rattle.reader.proofs.SpellLaws.{spells_skip, spells_set, spells_if, spells_then, spells_else, spells_end, spells_while, spells_doing, spells_settled, spells_provisional, spells_semicolon}
 use Rattle.reader.proofs.PlaceLaws.{led_start, missing_start, stuck_more, missing_unlike, stuck_end}
-use Rattle.reader.proofs.StatementLaws.{ended_by, asked_on, asked_after, with_else, with_end, stuck_statement, stuck_tested, stuck_if, stuck_chosen, stuck_while, stuck_semicolon, lacks_statement, test_ended, block_ended, skip_read, if_read, while_read, one_read, begun_read, over_begun, more_read}
+use Rattle.reader.proofs.StatementLaws.{asked_on, asked_after, with_else, with_end, stuck_statement, stuck_tested, stuck_if, stuck_chosen, stuck_while, stuck_semicolon, lacks_statement, test_ended, block_ended, skip_read, if_read, while_read, one_read, begun_read, over_begun, more_read}
 use Rattle.reader.proofs.statements.+statements.Goals as goal
 
 pub read_block-read_statement-step-requires : goal.read_block-read_statement-step-requires
@@ -27,8 +21,7 @@ read_block-read_block-step-requires t c =
     let first = rw c.in-Next.is at c.read_statement-step.ensures.0 in
     let more = rw c.in-Next-more.is at (c.expect-more.ensures word.semicolon spells_semicolon) in
     let asked = asked_after (asked_on c.requires.0 first) more in
-    let w = more in
-    (
+    let w = more in (
       omega (arith, c.decreases, first.few, first.counted, w.on, w.inside),
       (asked, c.read_statement-step.ensures.1),
     )
@@ -89,8 +82,7 @@ pub read_block-returns-in-Next-step : goal.read_block-returns-in-Next-step
 read_block-returns-in-Next-step t c =
     let first = rw c.in-Next.is at c.read_statement-step.ensures.0 in
     let more = rw c.in-Next-more.is at (c.expect-more.ensures word.semicolon spells_semicolon) in
-    let others = rw c.in-Next-step.is at c.read_block-step.ensures.0 in
-    (
+    let others = rw c.in-Next-step.is at c.read_block-step.ensures.0 in (
       (
         more_read first more others.0 c.put_row.ensures,
         others.1,
@@ -204,8 +196,7 @@ read_if-returns-in-Next-step-2 t c =
     let asked = asked_on c.requires.0 tested in
     let chosen = block_ended asked spells_else with_else c.read_block-step.result c.read_block-step.new.rows c.read_block-step.ensures.0 c.ended-step-in-Next.ensures c.in-Next-step.is in
     let again = asked_on asked chosen in
-    let told = block_ended again spells_end with_end c.read_block-step-in-Next-step.result c.read_block-step-in-Next-step.new.rows c.read_block-step-in-Next-step.ensures.0 c.ended-step-in-Next-step.ensures c.in-Next-step-2.is in
-    (
+    let told = block_ended again spells_end with_end c.read_block-step-in-Next-step.result c.read_block-step-in-Next-step.new.rows c.read_block-step-in-Next-step.ensures.0 c.ended-step-in-Next-step.ensures c.in-Next-step-2.is in (
       (λ at w. if_read w tested chosen told c.put_row.ensures),
       c.read_block-step-in-Next-step.ensures.1,
     )
@@ -245,11 +236,10 @@ read_statement-put_row-requires t c =
     c.requires.0.long
 
 pub read_statement-returns-then-is_word-2 : goal.read_statement-returns-then-is_word-2
-read_statement-returns-then-is_word-2 t c =
-    (
-      skip_read (led_start c.start_at-start.ensures spells_skip c.is_word-then-text-start-eq115.ensures.0 c.if-is_word-2.true) c.put_row.ensures,
-      c.requires.1,
-    )
+read_statement-returns-then-is_word-2 t c = (
+  skip_read (led_start c.start_at-start.ensures spells_skip c.is_word-then-text-start-eq115.ensures.0 c.if-is_word-2.true) c.put_row.ensures,
+  c.requires.1,
+)
 
 pub read_statement-is_word-requires-then-text-start-eq115-2 : goal.read_statement-is_word-requires-then-text-start-eq115-2
 read_statement-is_word-requires-then-text-start-eq115-2 t c =
@@ -270,20 +260,19 @@ read_statement-returns-then-is_word-3 t c =
     (c.read_output.ensures.0 word.settled Outputs.settled _ w, c.read_output.ensures.1)
 
 pub read_statement-returns-then-text-start-eq115 : goal.read_statement-returns-then-text-start-eq115
-read_statement-returns-then-text-start-eq115 t c =
-    (
-      (
-        lacks_statement
-            (missing_start c.start_at-start.ensures spells_skip c.is_word-then-text-start-eq115.ensures.0 c.if-is_word-2.false)
-            (missing_start c.start_at-start.ensures spells_set c.is_word.ensures.0 c.if-is_word.false)
-            (missing_unlike c.start_at-start.ensures spells_if (λ e. omega (arith, c.if-text-start-eq115.true, e)))
-            (missing_unlike c.start_at-start.ensures spells_while (λ e. omega (arith, c.if-text-start-eq115.true, e)))
-            (missing_start c.start_at-start.ensures spells_settled c.is_word-then-text-start-eq115-2.ensures.0 c.if-is_word-3.false)
-            (missing_unlike c.start_at-start.ensures spells_provisional (λ e. omega (arith, c.if-text-start-eq115.true, e))),
-        c.requires.0.long,
-      ),
-      c.requires.1,
-    )
+read_statement-returns-then-text-start-eq115 t c = (
+  (
+    lacks_statement
+        (missing_start c.start_at-start.ensures spells_skip c.is_word-then-text-start-eq115.ensures.0 c.if-is_word-2.false)
+        (missing_start c.start_at-start.ensures spells_set c.is_word.ensures.0 c.if-is_word.false)
+        (missing_unlike c.start_at-start.ensures spells_if (λ e. omega (arith, c.if-text-start-eq115.true, e)))
+        (missing_unlike c.start_at-start.ensures spells_while (λ e. omega (arith, c.if-text-start-eq115.true, e)))
+        (missing_start c.start_at-start.ensures spells_settled c.is_word-then-text-start-eq115-2.ensures.0 c.if-is_word-3.false)
+        (missing_unlike c.start_at-start.ensures spells_provisional (λ e. omega (arith, c.if-text-start-eq115.true, e))),
+    c.requires.0.long,
+  ),
+  c.requires.1,
+)
 
 pub read_statement-is_word-requires-2 : goal.read_statement-is_word-requires-2
 read_statement-is_word-requires-2 t c =
@@ -340,20 +329,19 @@ read_statement-returns-then-is_word-6 t c =
     (c.read_output-then-is_word-6.ensures.0 word.provisional Outputs.provisional _ w, c.read_output-then-is_word-6.ensures.1)
 
 pub read_statement-returns : goal.read_statement-returns
-read_statement-returns t c =
-    (
-      (
-        lacks_statement
-            (missing_unlike c.start_at-start.ensures spells_skip c.if-text-start-eq115.false)
-            (missing_unlike c.start_at-start.ensures spells_set c.if-text-start-eq115.false)
-            (missing_start c.start_at-start.ensures spells_if c.is_word-2.ensures.0 c.if-is_word-4.false)
-            (missing_start c.start_at-start.ensures spells_while c.is_word-3.ensures.0 c.if-is_word-5.false)
-            (missing_unlike c.start_at-start.ensures spells_settled c.if-text-start-eq115.false)
-            (missing_start c.start_at-start.ensures spells_provisional c.is_word-4.ensures.0 c.if-is_word-6.false),
-        c.requires.0.long,
-      ),
-      c.requires.1,
-    )
+read_statement-returns t c = (
+  (
+    lacks_statement
+        (missing_unlike c.start_at-start.ensures spells_skip c.if-text-start-eq115.false)
+        (missing_unlike c.start_at-start.ensures spells_set c.if-text-start-eq115.false)
+        (missing_start c.start_at-start.ensures spells_if c.is_word-2.ensures.0 c.if-is_word-4.false)
+        (missing_start c.start_at-start.ensures spells_while c.is_word-3.ensures.0 c.if-is_word-5.false)
+        (missing_unlike c.start_at-start.ensures spells_settled c.if-text-start-eq115.false)
+        (missing_start c.start_at-start.ensures spells_provisional c.is_word-4.ensures.0 c.if-is_word-6.false),
+    c.requires.0.long,
+  ),
+  c.requires.1,
+)
 
 pub read_while-read_expression-step-requires : goal.read_while-read_expression-step-requires
 read_while-read_expression-step-requires t c =
@@ -415,8 +403,7 @@ pub read_while-returns-in-Next-step : goal.read_while-returns-in-Next-step
 read_while-returns-in-Next-step t c =
     let tested = test_ended c.requires.0 spells_doing c.read_expression-step.result c.read_expression-step.new.rows c.read_expression-step.ensures.0 c.ended-step.ensures c.in-Next.is in
     let asked = asked_on c.requires.0 tested in
-    let told = block_ended asked spells_end with_end c.read_block-step.result c.read_block-step.new.rows c.read_block-step.ensures.0 c.ended-step-in-Next.ensures c.in-Next-step.is in
-    (
+    let told = block_ended asked spells_end with_end c.read_block-step.result c.read_block-step.new.rows c.read_block-step.ensures.0 c.ended-step-in-Next.ensures c.in-Next-step.is in (
       (λ at w. while_read w tested told c.put_row.ensures),
       c.read_block-step.ensures.1,
     )

@@ -1,6 +1,5 @@
 -- `reader::statements::ended` meets its contract.
 use mathlib.Core.Path.{refl}
-use borrow.Author.Rules.{rules}
 use Rattle.reader.proofs.statements.ended.Goals as goal
 
 pub returns-in-Faulty : goal.returns-in-Faulty

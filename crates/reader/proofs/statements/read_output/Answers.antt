@@ -1,7 +1,6 @@
 -- `reader::statements::read_output` meets its contract.
 use native.Mathlib.Omega.{arith}
 use Rattle.reader.proofs.StatementLaws.{asked_on, stuck_output, output_read}
-use borrow.Author.Rules.{rules}
 use Rattle.reader.proofs.statements.read_output.Goals as goal
 
 pub overflow_sub-total : goal.overflow_sub-total
@@ -21,13 +20,12 @@ overflow_add-result c =
     omega (arith, a.inside, a.short, a.few)
 
 pub returns-in-Faulty : goal.returns-in-Faulty
-returns-in-Faulty c =
-    (
-      (λ t o at w.
-          let s = rw c.in-Faulty.is at c.read_expression-shown.ensures.0 in
-          (stuck_output o w s.0, s.1)),
-      c.read_expression-shown.ensures.1,
-    )
+returns-in-Faulty c = (
+  (λ t o at w.
+      let s = rw c.in-Faulty.is at c.read_expression-shown.ensures.0 in
+      (stuck_output o w s.0, s.1)),
+  c.read_expression-shown.ensures.1,
+)
 
 pub returns-in-Next : goal.returns-in-Next
 returns-in-Next c =

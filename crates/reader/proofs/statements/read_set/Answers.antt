@@ -4,13 +4,10 @@ use mathlib.Core.List.{[], ◌∷◌}
 use Rattle.rules.specs.declared.Operator.{Operator}
 use Rattle.language.specs.Tokens as word
 use Rattle.reader.specs.Machine.{expr, exactly}
-use Rattle.reader.specs.Steps.{Asked}
-use Rattle.reader.specs.Statements.{Led}
 use Rattle.reader.proofs.SpellLaws.{spells_equal}
 use Rattle.reader.proofs.PlaceLaws.{stuck_more, lacks_word}
 use Rattle.reader.proofs.NameLaws.{led_name, lacks_name}
 use Rattle.reader.proofs.StatementLaws.{asked_on, asked_after, stuck_set, stuck_name, stuck_exactly, set_read}
-use borrow.Author.Rules.{rules}
 use Rattle.reader.proofs.statements.read_set.Goals as goal
 
 pub read_expression-assigned-requires : goal.read_expression-assigned-requires
@@ -37,16 +34,15 @@ overflow_add-result c =
     omega (arith, a.inside, a.short, a.few)
 
 pub returns-in-Nothing : goal.returns-in-Nothing
-returns-in-Nothing c =
-    (
-      (λ at w. (
-        stuck_set w
-            (stuck_more (lacks_name c.start_at-start.ensures c.variable_at-name.ensures c.in-Nothing.is)
-            (exactly (word.sign Operator.Equal) ∷ expr ∷ [])),
-        c.requires.0.long,
-      )),
-      c.requires.1,
-    )
+returns-in-Nothing c = (
+  (λ at w. (
+    stuck_set w
+        (stuck_more (lacks_name c.start_at-start.ensures c.variable_at-name.ensures c.in-Nothing.is)
+        (exactly (word.sign Operator.Equal) ∷ expr ∷ [])),
+    c.requires.0.long,
+  )),
+  c.requires.1,
+)
 
 pub returns-in-Missing : goal.returns-in-Missing
 returns-in-Missing c =

@@ -1,6 +1,5 @@
 -- `reader::words::expect` meets its contract.
 use native.Mathlib.Omega.{arith}
-use borrow.Author.Rules.{rules}
 use Rattle.reader.proofs.PlaceLaws.{led_start, missing_start}
 use Rattle.reader.proofs.words.expect.Goals as goal
 

@@ -5,8 +5,6 @@ use native.Mathlib.Omega.{arith}
 use mathlib.Core.Bool.{Bool, true, true≢false}
 use mathlib.Core.Path.{◌≡◌, sym, ◌∙◌}
 use lib.ListN.{length}
-use borrow.Author.Rules.{rules}
-use borrow.Author.Tests.{not-true, not-false}
 use Rattle.language.specs.Tokens.{same}
 use Rattle.spans.specs.Cut.{part}
 use Rattle.reader.proofs.StartLaws.{word_short, word_other, word_goes_on, word_single}
@@ -19,11 +17,10 @@ is_whole :
 is_whole text key at e h room inside = (sym e ∙ h, omega arith)
 
 pub returns-then-text-at : goal.returns-then-text-at
-returns-then-text-at c =
-    (
-      (λ one shown w cut. (word_short c.args.key.now one shown cut c.if-text-at.true, λ e. absurd (true≢false (sym e)))),
-      λ e. absurd (true≢false (sym e)),
-    )
+returns-then-text-at c = (
+  (λ one shown w cut. (word_short c.args.key.now one shown cut c.if-text-at.true, λ e. absurd (true≢false (sym e)))),
+  λ e. absurd (true≢false (sym e)),
+)
 
 pub returns-then-not-is_key : goal.returns-then-not-is_key
 returns-then-not-is_key c =
@@ -34,8 +31,7 @@ returns-then-not-is_key c =
 
 pub returns-then-is_joined : goal.returns-then-is_joined
 returns-then-is_joined c =
-    let whole = is_whole c.args.text.now c.args.key.now c.args.at c.is_key.ensures c.if-not-is_key.false c.if-text-at.false c.requires in
-    (
+    let whole = is_whole c.args.text.now c.args.key.now c.args.at c.is_key.ensures c.if-not-is_key.false c.if-text-at.false c.requires in (
       (λ one shown w cut.
           word_goes_on c.args.key.now one shown cut c.is_joined-then-is_joined.result (sym c.is_joined-then-is_joined.ensures) whole.1 whole.0
           (sym c.is_joined.ensures ∙ c.if-is_joined.true)),
@@ -44,8 +40,7 @@ returns-then-is_joined c =
 
 pub returns : goal.returns
 returns c =
-    let whole = is_whole c.args.text.now c.args.key.now c.args.at c.is_key.ensures c.if-not-is_key.false c.if-text-at.false c.requires in
-    (
+    let whole = is_whole c.args.text.now c.args.key.now c.args.at c.is_key.ensures c.if-not-is_key.false c.if-text-at.false c.requires in (
       (λ one shown w cut.
           let single = word_single c.args.key.now one shown cut whole.1 whole.0 (sym c.is_joined.ensures ∙ c.if-is_joined.false) in
           (single.0, λ _. single.1)),

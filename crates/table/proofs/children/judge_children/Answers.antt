@@ -1,12 +1,11 @@
 -- `table::children::judge_children` meets its contract: what is left to search gives the same answer as the whole.
-use Prim.Native.Nat.{◌-◌, ◌≤◌}
+use Prim.Native.Nat.{◌-◌}
 use native.Mathlib.Omega.{arith}
 use mathlib.Core.Path.{◌≡◌, sym, ap, ◌∙◌}
 use lib.ListN.{length}
-use Rattle.rules.specs.Rows.{rows_of, row_at}
+use Rattle.rules.specs.Rows.{rows_of}
 use Rattle.rules.specs.Judging.{wrong_children, lowest}
 use Rattle.rules.proofs.JudgeLaws.{lowest_step, lowest_found, lowest_end}
-use Rattle.table.specs.Refused.{refused_children}
 use Rattle.table.proofs.children.judge_children.Goals as goal
 
 pub loop-i-init : goal.loop-i-init
@@ -26,12 +25,11 @@ returns-then-wrong_children c =
     (sym (c.wrong_children.ensures ∙ ap (wrong_children _ _) c.read_row.ensures) ∙ c.if-wrong_children.true) c.loop-i.invariant.1
 
 pub loop-i-preserved : goal.loop-i-preserved
-loop-i-preserved c =
-    (
-      omega arith,
-      lowest_step 3 _ c.loop-i.i c.args.rows c.loop-i-test.true
-          (sym (c.wrong_children.ensures ∙ ap (wrong_children _ _) c.read_row.ensures) ∙ c.if-wrong_children.false) c.loop-i.invariant.1,
-    )
+loop-i-preserved c = (
+  omega arith,
+  lowest_step 3 _ c.loop-i.i c.args.rows c.loop-i-test.true
+      (sym (c.wrong_children.ensures ∙ ap (wrong_children _ _) c.read_row.ensures) ∙ c.if-wrong_children.false) c.loop-i.invariant.1,
+)
 
 pub returns : goal.returns
 returns c = lowest_end 3 _ c.loop-i.i c.args.rows (omega arith) c.loop-i.invariant.1

@@ -1,11 +1,8 @@
 -- `table::children::judge_children` meets its contract: what is left to search gives the same answer as the whole.
 use Prim.Native.Nat.{◌-◌, ◌≤◌}
-use native.Mathlib.Omega.{arith}
-use mathlib.Core.Path.{◌≡◌, sym, ap, ◌∙◌}
-use lib.ListN.{length}
+use mathlib.Core.Path.{◌≡◌}
 use Rattle.rules.specs.Rows.{rows_of, row_at}
 use Rattle.rules.specs.Judging.{wrong_children, lowest}
-use Rattle.rules.proofs.JudgeLaws.{lowest_step, lowest_found, lowest_end}
 use Rattle.table.specs.Refused.{refused_children}
 use Rattle.table.proofs.children.judge_children.Given as goal
 

@@ -7,7 +7,6 @@ use Rattle.rules.specs.declared.Row.{Row}
 use Rattle.rules.specs.Rows.{rows_of, is_statement, is_expression}
 use Rattle.rules.proofs.RowLaws.{role_arm}
 use Rattle.rules.proofs.RefusalLaws.{child_arms, late, early}
-use borrow.Author.Rules.{rules}
 use Rattle.table.proofs.children.wrong_child.Goals as goal
 
 pub returns-then-parent-word : goal.returns-then-parent-word

@@ -3,7 +3,6 @@ use mathlib.Core.Bool.{true, false}
 use mathlib.Core.Path.{refl, sym, ◌∙◌}
 use Rattle.rules.specs.Rows.{rows_of}
 use Rattle.rules.proofs.RefusalLaws.{children_law}
-use borrow.Author.Rules.{rules}
 use Rattle.table.proofs.children.wrong_children.Goals as goal
 
 pub returns-then-wrong_child : goal.returns-then-wrong_child

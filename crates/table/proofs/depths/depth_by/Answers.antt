@@ -5,7 +5,6 @@ use Prim.Native.Nat.{ℕ, ◌+◌}
 use Rattle.rules.specs.declared.Depth.{Depth}
 use Rattle.rules.proofs.RowLaws.{kind_arm}
 use Rattle.rules.proofs.RefusalLaws.{depth_arms}
-use borrow.Author.Rules.{rules}
 use Rattle.table.proofs.depths.depth_by.Goals as goal
 
 abbrev the_depth : ℕ → ℕ → ℕ → Depth

@@ -1,16 +1,14 @@
 -- `table::depths::judge_depths` meets its contract: what is left to search gives the same answer as the whole.
-use Prim.Native.Nat.{◌-◌, ◌≤◌, ◌<◌}
+use Prim.Native.Nat.{◌-◌}
 use native.Mathlib.Omega.{arith}
 use mathlib.Core.Path.{◌≡◌, sym, ap, ◌∙◌}
 use lib.ListN.{length}
-use Rattle.rules.specs.Limits.{most_rows}
 use Rattle.rules.specs.Rows.{rows_of}
-use Rattle.rules.specs.Judging.{too_deep, lowest}
+use Rattle.rules.specs.Judging.{lowest}
 use Rattle.rules.specs.OnePass.{depth_at, over_limits}
 use Rattle.rules.proofs.JudgeLaws.{lowest_step, lowest_found, lowest_end, fitting_rows}
 use Rattle.rules.proofs.RefusalLaws.{within_limits, too_deep_law}
-use Rattle.table.specs.Refused.{refused_depths}
-use Rattle.table.proofs.DepthLaws.{Kept, kept_none, kept_more, kept_depth}
+use Rattle.table.proofs.DepthLaws.{kept_none, kept_more, kept_depth}
 use Rattle.table.proofs.depths.judge_depths.Goals as goal
 
 pub loop-i-init : goal.loop-i-init
@@ -21,26 +19,17 @@ loop-i-init c =
 pub read_row-row-requires : goal.read_row-row-requires
 read_row-row-requires c = omega (arith, c.requires.counted.1)
 
-pub place-requires : goal.place-requires
-place-requires c = tt
-
 pub offset_bounds-depths-place : goal.offset_bounds-depths-place
 offset_bounds-depths-place c = omega (arith, c.place.ensures)
 
 pub bounds-depths-place : goal.bounds-depths-place
 bounds-depths-place c = omega (arith, c.place.ensures)
 
-pub place-requires-in-loop-i : goal.place-requires-in-loop-i
-place-requires-in-loop-i c = tt
-
 pub offset_bounds-depths-place-in-loop-i : goal.offset_bounds-depths-place-in-loop-i
 offset_bounds-depths-place-in-loop-i c = omega (arith, c.place-in-loop-i.ensures)
 
 pub bounds-depths-place-in-loop-i : goal.bounds-depths-place-in-loop-i
 bounds-depths-place-in-loop-i c = omega (arith, c.place-in-loop-i.ensures)
-
-pub place-requires-in-loop-i-2 : goal.place-requires-in-loop-i-2
-place-requires-in-loop-i-2 c = tt
 
 pub offset_bounds-depths-place-in-loop-i-2 : goal.offset_bounds-depths-place-in-loop-i-2
 offset_bounds-depths-place-in-loop-i-2 c = omega (arith, c.place-in-loop-i-2.ensures)
@@ -52,9 +41,6 @@ pub depth_by-depth-requires : goal.depth_by-depth-requires
 depth_by-depth-requires c =
     let kept = c.loop-i.invariant.2 in
     (kept.within _, kept.within _, kept.within _)
-
-pub over_limits-requires : goal.over_limits-requires
-over_limits-requires c = tt
 
 pub returns-then-over_limits : goal.returns-then-over_limits
 returns-then-over_limits c =
@@ -91,8 +77,7 @@ loop-i-preserved c =
     ∙ kept_depth rows c.loop-i.depths c.loop-i.i c.read_row-row.result _ _ _
     (fitting_rows rows c.requires.accepted.0 c.requires.accepted.1) c.loop-i.invariant.2
     (omega (arith, c.loop-i-test.true, c.requires.counted.1)) (omega (arith, c.loop-i-test.true, c.requires.counted.0))
-    c.read_row-row.ensures c.place.ensures c.place-in-loop-i.ensures c.place-in-loop-i-2.ensures in
-    (
+    c.read_row-row.ensures c.place.ensures c.place-in-loop-i.ensures c.place-in-loop-i-2.ensures in (
       omega (arith, c.loop-i-test.true),
       lowest_step 5 _ c.loop-i.i c.args.rows c.loop-i-test.true
           (too_deep_law _ _ ∙ ap over_limits (sym found) ∙ sym c.over_limits.ensures ∙ c.if-over_limits.false) c.loop-i.invariant.1,

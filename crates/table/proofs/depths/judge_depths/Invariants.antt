@@ -1,16 +1,10 @@
 -- `table::depths::judge_depths` meets its contract: what is left to search gives the same answer as the whole.
-use Prim.Native.Nat.{◌-◌, ◌≤◌, ◌<◌}
-use native.Mathlib.Omega.{arith}
-use mathlib.Core.Path.{◌≡◌, sym, ap, ◌∙◌}
-use lib.ListN.{length}
-use Rattle.rules.specs.Limits.{most_rows}
+use Prim.Native.Nat.{◌-◌, ◌≤◌}
+use mathlib.Core.Path.{◌≡◌}
 use Rattle.rules.specs.Rows.{rows_of}
 use Rattle.rules.specs.Judging.{too_deep, lowest}
-use Rattle.rules.specs.OnePass.{depth_at, over_limits}
-use Rattle.rules.proofs.JudgeLaws.{lowest_step, lowest_found, lowest_end, fitting_rows}
-use Rattle.rules.proofs.RefusalLaws.{within_limits, too_deep_law}
 use Rattle.table.specs.Refused.{refused_depths}
-use Rattle.table.proofs.DepthLaws.{Kept, kept_none, kept_more, kept_depth}
+use Rattle.table.proofs.DepthLaws.{Kept}
 use Rattle.table.proofs.depths.judge_depths.Given as goal
 
 abbrev pub invariant-loop-i : goal.invariant-loop-i

@@ -6,7 +6,6 @@ use Rattle.rules.specs.contracts.Kind.{the_type}
 use Rattle.rules.specs.declared.Kind.{Kind}
 use Rattle.rules.specs.Rows.{roles_of}
 use Rattle.rules.proofs.RowLaws.{roles_table, roles_law}
-use borrow.Author.Rules.{rules}
 use Rattle.table.proofs.kinds.roles_of.Goals as goal
 
 -- the table at the place of the kind that is told

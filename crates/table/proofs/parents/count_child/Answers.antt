@@ -6,7 +6,6 @@ use Rattle.rules.proofs.RowLaws.{role_arm}
 use Rattle.rules.proofs.RefusalLaws.{child_of_arms}
 use Rattle.table.specs.Parents.{Counted}
 use Rattle.table.proofs.CountLaws.{counted_none, counted_out, counted_child}
-use borrow.Author.Rules.{rules}
 use Rattle.table.proofs.parents.count_child.Goals as goal
 
 pub returns-then-parents-at-eq0 : goal.returns-then-parents-at-eq0

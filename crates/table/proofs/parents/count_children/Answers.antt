@@ -3,7 +3,6 @@ use mathlib.Core.Path.{sym, subst}
 use Rattle.rules.proofs.RefusalLaws.{children_of_law}
 use Rattle.table.specs.Parents.{Counted}
 use Rattle.table.proofs.CountLaws.{counted_then}
-use borrow.Author.Rules.{rules}
 use Rattle.table.proofs.parents.count_children.Goals as goal
 
 pub returns : goal.returns

@@ -1,11 +1,7 @@
 -- `table::parents::count_parents` meets its contract: what is counted is the children of the rows passed.
-use Prim.Native.Nat.{◌-◌, ◌≤◌}
 use native.Mathlib.Omega.{arith}
-use mathlib.Core.Path.{◌≡◌, sym, subst, ap}
-use lib.ListN.{length, take}
-use Rattle.rules.specs.Limits.{most_rows}
+use mathlib.Core.Path.{sym, subst, ap}
 use Rattle.rules.specs.Rows.{rows_of}
-use Rattle.rules.specs.Judging.{children}
 use Rattle.rules.specs.OnePass.{children_of}
 use Rattle.rules.proofs.RefusalLaws.{children_none, children_more, children_all}
 use Rattle.table.specs.Parents.{Counted}

@@ -1,15 +1,11 @@
 -- `table::parents::count_parents` meets its contract: what is counted is the children of the rows passed.
 use Prim.Native.Nat.{◌-◌, ◌≤◌}
-use native.Mathlib.Omega.{arith}
-use mathlib.Core.Path.{◌≡◌, sym, subst, ap}
+use mathlib.Core.Path.{◌≡◌}
 use lib.ListN.{length, take}
 use Rattle.rules.specs.Limits.{most_rows}
 use Rattle.rules.specs.Rows.{rows_of}
 use Rattle.rules.specs.Judging.{children}
-use Rattle.rules.specs.OnePass.{children_of}
-use Rattle.rules.proofs.RefusalLaws.{children_none, children_more, children_all}
 use Rattle.table.specs.Parents.{Counted}
-use Rattle.table.proofs.CountLaws.{counted_none, counted_then}
 use Rattle.table.proofs.parents.count_parents.Given as goal
 
 abbrev pub invariant-loop-i : goal.invariant-loop-i

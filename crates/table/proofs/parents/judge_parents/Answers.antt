@@ -1,14 +1,12 @@
 -- `table::parents::judge_parents` meets its contract: what is left to search gives the same answer as the whole.
-use Prim.Native.Nat.{ℕ, ◌-◌, ◌≤◌, ◌<◌}
+use Prim.Native.Nat.{ℕ, ◌-◌}
 use native.Mathlib.Omega.{arith}
 use mathlib.Core.Path.{◌≡◌, refl, sym, ap, ◌∙◌}
 use lib.ListN.{length, get_or, replicate, get_or-replicate}
 use Rattle.rules.specs.Limits.{most_rows}
 use Rattle.rules.specs.Rows.{rows_of}
-use Rattle.rules.specs.Judging.{children, places, wrong_parents, lowest}
+use Rattle.rules.specs.Judging.{lowest}
 use Rattle.rules.proofs.JudgeLaws.{lowest_step, lowest_found, lowest_end}
-use Rattle.table.specs.Parents.{SameCount}
-use Rattle.table.specs.Refused.{refused_parents}
 use Rattle.table.proofs.parents.judge_parents.Goals as goal
 
 pub count_parents-requires : goal.count_parents-requires
@@ -35,13 +33,12 @@ returns-then-wrong_parents c =
     (sym c.wrong_parents.ensures ∙ c.if-wrong_parents.true) c.loop-i.invariant.1
 
 pub loop-i-preserved : goal.loop-i-preserved
-loop-i-preserved c =
-    (
-      omega arith,
-      lowest_step 4 _ c.loop-i.i c.args.rows c.loop-i-test.true
-          (sym c.wrong_parents.ensures ∙ c.if-wrong_parents.false) c.loop-i.invariant.1,
-      c.loop-i.invariant.2,
-    )
+loop-i-preserved c = (
+  omega arith,
+  lowest_step 4 _ c.loop-i.i c.args.rows c.loop-i-test.true
+      (sym c.wrong_parents.ensures ∙ c.if-wrong_parents.false) c.loop-i.invariant.1,
+  c.loop-i.invariant.2,
+)
 
 pub returns : goal.returns
 returns c =

@@ -1,12 +1,10 @@
 -- `table::parents::judge_parents` meets its contract: what is left to search gives the same answer as the whole.
 use Prim.Native.Nat.{ℕ, ◌-◌, ◌≤◌, ◌<◌}
-use native.Mathlib.Omega.{arith}
-use mathlib.Core.Path.{◌≡◌, refl, sym, ap, ◌∙◌}
-use lib.ListN.{length, get_or, replicate, get_or-replicate}
+use mathlib.Core.Path.{◌≡◌}
+use lib.ListN.{get_or}
 use Rattle.rules.specs.Limits.{most_rows}
 use Rattle.rules.specs.Rows.{rows_of}
 use Rattle.rules.specs.Judging.{children, places, wrong_parents, lowest}
-use Rattle.rules.proofs.JudgeLaws.{lowest_step, lowest_found, lowest_end}
 use Rattle.table.specs.Parents.{SameCount}
 use Rattle.table.specs.Refused.{refused_parents}
 use Rattle.table.proofs.parents.judge_parents.Given as goal

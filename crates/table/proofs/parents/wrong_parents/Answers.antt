@@ -4,7 +4,6 @@ use mathlib.Core.Path.{sym, ap, ◌∙◌}
 use Rattle.rules.specs.declared.Row.{Row}
 use Rattle.rules.specs.Rows.{rows_of, is_expression}
 use Rattle.rules.proofs.RefusalLaws.{last_law, inner_law}
-use borrow.Author.Rules.{rules}
 use Rattle.table.proofs.parents.wrong_parents.Goals as goal
 
 pub read_row-row-requires : goal.read_row-row-requires

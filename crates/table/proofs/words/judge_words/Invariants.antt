@@ -1,11 +1,8 @@
 -- `table::words::judge_words` meets its contract: what is left to search gives the same answer as the whole.
 use Prim.Native.Nat.{◌-◌, ◌≤◌}
-use native.Mathlib.Omega.{arith}
-use mathlib.Core.Path.{◌≡◌, sym, ap, ◌∙◌}
-use lib.ListN.{length}
+use mathlib.Core.Path.{◌≡◌}
 use Rattle.rules.specs.Rows.{rows_of, row_at}
 use Rattle.rules.specs.Judging.{wrong_words, lowest}
-use Rattle.rules.proofs.JudgeLaws.{lowest_step, lowest_found, lowest_end}
 use Rattle.table.specs.Refused.{refused_words}
 use Rattle.table.proofs.words.judge_words.Given as goal
 

@@ -2,7 +2,6 @@
 use mathlib.Core.Path.{sym}
 use Rattle.rules.proofs.RowLaws.{role_arm}
 use Rattle.rules.proofs.RefusalLaws.{word_arms}
-use borrow.Author.Rules.{rules}
 use Rattle.table.proofs.words.wrong_word.Goals as goal
 
 pub returns-in-Unnamed : goal.returns-in-Unnamed

@@ -5,7 +5,6 @@ use mathlib.Core.Path.{refl, sym, ◌∙◌}
 use Rattle.rules.specs.Rows.{roles_of}
 use Rattle.rules.proofs.RowLaws.{kind_arm, unknown_arms}
 use Rattle.rules.proofs.RefusalLaws.{words_law}
-use borrow.Author.Rules.{rules}
 use Rattle.table.proofs.words.wrong_words.Goals as goal
 
 pub returns-in-Unknown : goal.returns-in-Unknown
