@@ -1,33 +1,59 @@
 // Reads a job from standard input and writes its report to standard output. Where a call of the system fails, a line on
 // standard error says so; then no report is begun, or no more of it is written.
+#![tactic(auto)]
+
 mod streams;
 
 use report::Wrote;
+use std::io;
+use std::io::Write;
 use streams::Moved;
 
 // One byte more than a job may have, so that a longer one is seen to be too long.
 const TEXT_BYTES: usize = job::MOST_BYTES + 1;
 
+// Room for the reason of a failed call.
+const REASON_BYTES: usize = 128;
+
+// Says on standard error what failed and why.
+fn tell(rt: &impl Eprint, what: &str, why: io::Error) {
+    let mut said = [0u8; REASON_BYTES];
+    let mut room = &mut said[..];
+    // what finds no room is left off; and where standard error takes nothing, there is nowhere left to say so
+    let _ = write!(room, "{why}");
+    let _ = eprintln!(rt; "{what}: {}", reason_in(&said));
+}
+
+// The system's words for an error, which stand in the buffer as std writes them: the error's number follows them.
+fn reason_in(said: &[u8]) -> &str {
+    let Ok(text) = str::from_utf8(said) else {
+        return "";
+    };
+    match text.split_once(" (os error ") {
+        Some((reason, _)) => reason,
+        None => text.trim_end_matches('\0'),
+    }
+}
+
 // Answers a job's bytes with its report.
-fn answer(text: &[u8]) {
+fn answer(rt: &HostRuntime, text: &[u8]) {
     let mut out = [0u8; desk::REPORT_BYTES];
     let wrote = desk::answer_job(text, &mut out);
     // such a buffer has room for every report
     let Wrote::Bytes(count) = wrote else {
         return;
     };
-    let put = streams::write_all(&out[..count]);
-    if let Moved::Failed = put {
-        os::fail(b"watch: cannot write the report");
+    let put = streams::write_all(&mut rt.stdout(), &out[..count]);
+    if let Moved::Failed(why) = put {
+        tell(rt, "watch: cannot write the report", why);
     }
 }
 
-fn main() {
+fn main(rt: HostRuntime) {
     let mut text = [0u8; TEXT_BYTES];
-    let got = streams::read_all(&mut text);
-    let Moved::Bytes(count) = got else {
-        os::fail(b"watch: cannot read the job");
-        return;
-    };
-    answer(&text[..count]);
+    let got = streams::read_all(&mut rt.stdin(), &mut text);
+    match got {
+        Moved::Bytes(count) => answer(&rt, &text[..count]),
+        Moved::Failed(why) => tell(&rt, "watch: cannot read the job", why),
+    }
 }
