@@ -4,12 +4,16 @@
 //
 // A case is a code and what it asks; vectors/README.md says how each is answered. A 0, or a number that lacks its form, ends it
 // all.
+#![tactic(auto)]
+
+ghost use Rattle.std.specs.Io.{ReadsAtMost};
 ghost use Rattle.std.specs.Prelude.{◌<◌};
 
 use expression::assigned::Assigned;
 use expression::values::Evaluation;
-use libc::{STDIN_FILENO, STDOUT_FILENO};
 use rules::{Advice, Answer, Checked, Ended, Judged, Kind, Marks, Memory, VARIABLES};
+use std::io;
+use std::io::Read;
 
 // The codes of the cases.
 const JUDGE: u32 = 1;
@@ -44,7 +48,7 @@ const SUM_FACTOR: u64 = 31;
 const MOST_NUMBER: u64 = rules::WORD_VALUES - 1;
 
 // A number of the input, and where the next one starts.
-#[derive(Drop)]
+#[derive(Clone, Copy)]
 struct Number {
     value: u32,
     next: usize,
@@ -106,100 +110,93 @@ fn read_words(text: &[u8], start: usize, words: &mut [u32]) -> usize {
 }
 
 // Writes a number with a space before it.
-fn write_number(value: u32) {
-    io::write_all(STDOUT_FILENO, b" ");
-    io::print_decimal(STDOUT_FILENO, value as u64);
+fn write_number(rt: &impl Print, value: u32) -> io::Result<()> {
+    print!(rt; " {value}")
 }
 
 // Writes numbers, each with a space before it.
-fn write_numbers(values: &[u32]) {
+fn write_numbers(rt: &impl Print, values: &[u32]) -> io::Result<()> {
     let mut i: usize = 0;
     while i < values.len() {
-        write_number(values[i]);
+        write_number(rt, values[i])?;
         i += 1;
     }
+    Ok(())
 }
 
 // Starts a case's line.
-fn write_first(value: u32) {
-    io::print_decimal(STDOUT_FILENO, value as u64);
+fn write_first(rt: &impl Print, value: u32) -> io::Result<()> {
+    print!(rt; "{value}")
 }
 
 // Ends a case's line.
-fn write_end() {
-    io::write_all(STDOUT_FILENO, b"\n");
+fn write_end(rt: &impl Print) -> io::Result<()> {
+    println!(rt)
 }
 
-fn write_judged(judged: Judged) {
+fn write_judged(rt: &impl Print, judged: Judged) -> io::Result<()> {
     match judged {
         Judged::Accepted => {
-            write_first(0);
-            write_number(0);
+            write_first(rt, 0)?;
+            write_number(rt, 0)
         }
         Judged::Refused { number, row } => {
-            write_first(number);
-            write_number(row);
+            write_first(rt, number)?;
+            write_number(rt, row)
         }
     }
 }
 
 // How a call ended: whether it was refused, then a number and a row.
-fn write_ended(refused: u32, number: u32, row: u32) {
-    write_first(refused);
-    write_number(number);
-    write_number(row);
+fn write_ended(rt: &impl Print, refused: u32, number: u32, row: u32) -> io::Result<()> {
+    write_first(rt, refused)?;
+    write_number(rt, number)?;
+    write_number(rt, row)
 }
 
 // The same of a run, and what it was stopped because of.
-fn write_end_of_run(ended: Ended) {
+fn write_end_of_run(rt: &impl Print, ended: Ended) -> io::Result<()> {
     match ended {
         Ended::Done => {
-            write_ended(0, 0, 0);
-            write_number(0);
+            write_ended(rt, 0, 0, 0)?;
+            write_number(rt, 0)
         }
         Ended::Stopped { row, because } => {
-            write_ended(0, 1, row);
-            write_number(because);
+            write_ended(rt, 0, 1, row)?;
+            write_number(rt, because)
         }
         Ended::Spent => {
-            write_ended(0, 2, 0);
-            write_number(0);
+            write_ended(rt, 0, 2, 0)?;
+            write_number(rt, 0)
         }
         Ended::NoRoom(row) => {
-            write_ended(0, 3, row);
-            write_number(0);
+            write_ended(rt, 0, 3, row)?;
+            write_number(rt, 0)
         }
         Ended::Refused { number, row } => {
-            write_ended(1, number, row);
-            write_number(0);
+            write_ended(rt, 1, number, row)?;
+            write_number(rt, 0)
         }
     }
 }
 
 // Whether the check was refused, and by what; else whether it failed, and where; then the marks.
-fn write_advice(advice: Advice) {
+fn write_advice(rt: &impl Print, advice: Advice) -> io::Result<()> {
     let checked = advice.checked;
     match checked {
-        Checked::Pass => {
-            write_ended(0, 0, 0);
-        }
-        Checked::Fail(row) => {
-            write_ended(0, 1, row);
-        }
-        Checked::Refused { number, row } => {
-            write_ended(1, number, row);
-        }
+        Checked::Pass => write_ended(rt, 0, 0, 0)?,
+        Checked::Fail(row) => write_ended(rt, 0, 1, row)?,
+        Checked::Refused { number, row } => write_ended(rt, 1, number, row)?,
     }
-    write_number(advice.marks);
+    write_number(rt, advice.marks)
 }
 
 // The whole of a short trace; of a long one the sum over all its words.
-fn write_trace(trace: &[u32]) {
+fn write_trace(rt: &impl Print, trace: &[u32]) -> io::Result<()> {
     if trace.len() <= MOST_SHOWN_WORDS {
-        write_numbers(trace);
-        return;
+        return write_numbers(rt, trace);
     }
-    write_number(sum_of(trace));
+    write_number(rt, sum_of(trace))
 }
 
 // A sum over all words, in which a word counts by its place.
@@ -218,55 +215,61 @@ fn next_sum(sum: u32, word: u32) -> u32 {
     ((sum as u64 * SUM_FACTOR + word as u64) % rules::WORD_VALUES) as u32
 }
 
-fn write_answer(answer: Answer) {
+fn write_answer(rt: &impl Print, answer: Answer) -> io::Result<()> {
     let ended = answer.ended;
-    write_end_of_run(ended);
-    write_number(answer.steps);
-    write_number(answer.marks);
+    write_end_of_run(rt, ended)?;
+    write_number(rt, answer.steps)?;
+    write_number(rt, answer.marks)?;
     let memory = answer.memory;
     let words = memory.words;
-    write_numbers(&words);
-    write_number(answer.records);
+    write_numbers(rt, &words)?;
+    write_number(rt, answer.records)
 }
 
 // A case of a table: word count, words, and what the code asks further.
-fn answer_words(text: &[u8], start: usize, code: u32) -> usize {
+fn answer_words(rt: &impl Print, text: &[u8], start: usize, code: u32) -> io::Result<usize> {
     let number = number_at(text, start);
     let count = number.value as usize;
     if MOST_WORDS < count {
-        return text.len();
+        return Ok(text.len());
     }
     let mut words = [0u32; MOST_WORDS];
-    answer_read(text, number.next, code, &mut words[..count])
+    answer_read(rt, text, number.next, code, &mut words[..count])
 }
 
 // Reads the words, and goes on with their case.
-fn answer_read(text: &[u8], start: usize, code: u32, words: &mut [u32]) -> usize {
+fn answer_read(
+    rt: &impl Print,
+    text: &[u8],
+    start: usize,
+    code: u32,
+    words: &mut [u32],
+) -> io::Result<usize> {
     let next = read_words(text, start, words);
     if code == JUDGE {
-        write_judged(table::judge(words));
-        write_end();
-        return next;
+        write_judged(rt, table::judge(words))?;
+        write_end(rt)?;
+        return Ok(next);
     }
     if code == LEVELS {
-        return answer_levels(text, next, words);
+        return answer_levels(rt, text, next, words);
     }
     if code == ROWS {
-        return answer_rows(text, next, words);
+        return answer_rows(rt, text, next, words);
     }
-    answer_run(text, next, words)
+    answer_run(rt, text, next, words)
 }
 
 // A case of the level check, after its words: marks.
-fn answer_levels(text: &[u8], start: usize, table: &[u32]) -> usize {
+fn answer_levels(rt: &impl Print, text: &[u8], start: usize, table: &[u32]) -> io::Result<usize> {
     let marks = number_at(text, start);
-    write_advice(levels::check(table, marks.value));
-    write_end();
-    marks.next
+    write_advice(rt, levels::check(table, marks.value))?;
+    write_end(rt)?;
+    Ok(marks.next)
 }
 
 // The memory words from there on, and where the next number starts.
-#[derive(Drop)]
+#[derive(Clone, Copy)]
 struct Given {
     memory: Memory,
     next: usize,
@@ -282,7 +285,7 @@ fn memory_at(text: &[u8], start: usize) -> Given {
 }
 
 // A case of rows, after its words: memory, marks, row count, rows. It is answered by a line for each row.
-fn answer_rows(text: &[u8], start: usize, table: &[u32]) -> usize {
+fn answer_rows(rt: &impl Print, text: &[u8], start: usize, table: &[u32]) -> io::Result<usize> {
     let given = memory_at(text, start);
     let marks = number_at(text, given.next);
     let asked = number_at(text, marks.next);
@@ -291,30 +294,36 @@ fn answer_rows(text: &[u8], start: usize, table: &[u32]) -> usize {
     let mut left = asked.value;
     while 0 < left {
         let row = number_at(text, at);
-        answer_row(table, row.value, memory, marks.value);
+        answer_row(rt, table, row.value, memory, marks.value)?;
         at = row.next;
         left -= 1;
     }
-    at
+    Ok(at)
 }
 
 // All that the functions on rows answer of one row.
-fn answer_row(table: &[u32], row: u32, memory: Memory, marks: Marks) {
-    write_row(table, row);
-    write_value(table, row, memory, marks);
-    write_assigned(table, row);
-    write_end();
+fn answer_row(
+    rt: &impl Print,
+    table: &[u32],
+    row: u32,
+    memory: Memory,
+    marks: Marks,
+) -> io::Result<()> {
+    write_row(rt, table, row)?;
+    write_value(rt, table, row, memory, marks)?;
+    write_assigned(rt, table, row)?;
+    write_end(rt)
 }
 
 // Whether the table has the row; then its kind and words.
-fn write_row(table: &[u32], row: u32) {
-    write_first(number_of(rows::has_row(table, row)));
+fn write_row(rt: &impl Print, table: &[u32], row: u32) -> io::Result<()> {
+    write_first(rt, number_of(rows::has_row(table, row)))?;
     let here = rows::row_at(table, row);
     let kind = here.kind;
-    write_number(number_of_kind(kind));
-    write_number(here.p);
-    write_number(here.q);
-    write_number(here.r);
+    write_number(rt, number_of_kind(kind))?;
+    write_number(rt, here.p)?;
+    write_number(rt, here.q)?;
+    write_number(rt, here.r)
 }
 
 // 1 for true, 0 for false.
@@ -342,54 +351,57 @@ fn number_of_kind(kind: Kind) -> u32 {
 }
 
 // A refusal in the middle of a line, after a 1.
-fn write_refused(number: u32, row: u32) {
-    write_number(1);
-    write_number(number);
-    write_number(row);
+fn write_refused(rt: &impl Print, number: u32, row: u32) -> io::Result<()> {
+    write_number(rt, 1)?;
+    write_number(rt, number)?;
+    write_number(rt, row)
 }
 
 // Whether the table was refused, and by what; else the value and level of the row.
-fn write_value(table: &[u32], row: u32, memory: Memory, marks: Marks) {
+fn write_value(
+    rt: &impl Print,
+    table: &[u32],
+    row: u32,
+    memory: Memory,
+    marks: Marks,
+) -> io::Result<()> {
     let evaluation = expression::values::value_at(table, row, memory, marks);
     match evaluation {
         Evaluation::Found(found) => {
-            write_number(0);
-            write_number(found.value);
-            write_number(found.level);
+            write_number(rt, 0)?;
+            write_number(rt, found.value)?;
+            write_number(rt, found.level)
         }
-        Evaluation::Refused { number, row: at } => {
-            write_refused(number, at);
-        }
+        Evaluation::Refused { number, row: at } => write_refused(rt, number, at),
     }
 }
 
 // Whether the table was refused, and by what; else the variables that the row may assign.
-fn write_assigned(table: &[u32], row: u32) {
+fn write_assigned(rt: &impl Print, table: &[u32], row: u32) -> io::Result<()> {
     let assigned = expression::assigned::assigned_at(table, row);
     match assigned {
         Assigned::Variables(variables) => {
-            write_number(0);
-            write_number(variables);
+            write_number(rt, 0)?;
+            write_number(rt, variables)
         }
-        Assigned::Refused { number, row: at } => {
-            write_refused(number, at);
-        }
+        Assigned::Refused { number, row: at } => write_refused(rt, number, at),
     }
 }
 
 // A case of the run, after its words: memory, marks, budget, trace word count, trace words.
-fn answer_run(text: &[u8], start: usize, table: &[u32]) -> usize {
+fn answer_run(rt: &impl Print, text: &[u8], start: usize, table: &[u32]) -> io::Result<usize> {
     let given = memory_at(text, start);
     let marks = number_at(text, given.next);
     let budget = number_at(text, marks.next);
     let lent = number_at(text, budget.next);
     let count = lent.value as usize;
     if MOST_TRACE_WORDS < count {
-        return text.len();
+        return Ok(text.len());
     }
     let mut trace = [0u32; MOST_TRACE_WORDS];
     let memory = given.memory;
     run_traced(
+        rt,
         text,
         lent.next,
         table,
@@ -402,6 +414,7 @@ fn answer_run(text: &[u8], start: usize, table: &[u32]) -> usize {
 
 // Reads the words of the trace, and writes what the run answers and leaves in the trace.
 fn run_traced(
+    rt: &impl Print,
     text: &[u8],
     start: usize,
     table: &[u32],
@@ -409,76 +422,92 @@ fn run_traced(
     marks: Marks,
     budget: u32,
     trace: &mut [u32],
-) -> usize {
+) -> io::Result<usize> {
     let next = read_words(text, start, trace);
     let answer = monitor::run(table, memory, marks, budget, trace);
-    write_answer(answer);
-    write_trace(trace);
-    write_end();
-    next
+    write_answer(rt, answer)?;
+    write_trace(rt, trace)?;
+    write_end(rt)?;
+    Ok(next)
 }
 
 // A case of an operator: operator, left, right.
-fn answer_operator(text: &[u8], start: usize) -> usize {
+fn answer_operator(rt: &impl Print, text: &[u8], start: usize) -> io::Result<usize> {
     let operator = number_at(text, start);
     let left = number_at(text, operator.next);
     let right = number_at(text, left.next);
     let value = leaves::operators::operated(operator.value, left.value, right.value);
-    write_first(value);
-    write_end();
-    right.next
+    write_first(rt, value)?;
+    write_end(rt)?;
+    Ok(right.next)
 }
 
 // A case of mark sets: marks, variable, other marks.
-fn answer_marks(text: &[u8], start: usize) -> usize {
+fn answer_marks(rt: &impl Print, text: &[u8], start: usize) -> io::Result<usize> {
     let marks = number_at(text, start);
     let variable = number_at(text, marks.next);
     let others = number_at(text, variable.next);
-    write_marks(marks.value, variable.value, others.value);
-    write_end();
-    others.next
+    write_marks(rt, marks.value, variable.value, others.value)?;
+    write_end(rt)?;
+    Ok(others.next)
 }
 
 // The variable alone; whether it is in the set; the set with and without it; both sets.
-fn write_marks(marks: Marks, variable: u32, others: Marks) {
-    write_first(leaves::marks::only_mark(variable));
-    write_number(number_of(leaves::marks::has_mark(marks, variable)));
-    write_number(leaves::marks::mark_as(marks, variable, true));
-    write_number(leaves::marks::mark_as(marks, variable, false));
-    write_number(leaves::marks::joined(marks, others));
+fn write_marks(rt: &impl Print, marks: Marks, variable: u32, others: Marks) -> io::Result<()> {
+    write_first(rt, leaves::marks::only_mark(variable))?;
+    write_number(rt, number_of(leaves::marks::has_mark(marks, variable)))?;
+    write_number(rt, leaves::marks::mark_as(marks, variable, true))?;
+    write_number(rt, leaves::marks::mark_as(marks, variable, false))?;
+    write_number(rt, leaves::marks::joined(marks, others))
 }
 
 // Answers the case that starts there, and says where the next one starts.
-fn answer_one(text: &[u8], start: usize) -> usize {
+fn answer_one(rt: &impl Print, text: &[u8], start: usize) -> io::Result<usize> {
     let code = number_at(text, start);
     let asked = code.value;
     if asked == OPERATOR {
-        return answer_operator(text, code.next);
+        return answer_operator(rt, text, code.next);
     }
     if asked == MARKS {
-        return answer_marks(text, code.next);
+        return answer_marks(rt, text, code.next);
     }
     if asked == JUDGE || asked == RUN || asked == LEVELS || asked == ROWS {
-        return answer_words(text, code.next, asked);
+        return answer_words(rt, text, code.next, asked);
     }
-    text.len()
+    Ok(text.len())
 }
 
 // Answers the cases up to the end of the input, or to one that lacks its form.
-fn answer_all(text: &[u8]) {
+fn answer_all(rt: &impl Print, text: &[u8]) -> io::Result<()> {
     let mut at: usize = 0;
     let mut cases: u32 = 0;
     while cases < MOST_CASES {
         if text.len() <= at {
-            return;
+            return Ok(());
         }
-        at = answer_one(text, at);
+        at = answer_one(rt, text, at)?;
         cases += 1;
     }
+    Ok(())
 }
 
-fn main() {
+// Reads until the buffer is full or the input ends: so many bytes stand at the buffer's front.
+fn read_full(from: &mut impl Read, buf: &mut [u8]) -> io::Result<usize>
+    ensures { ReadsAtMost result buf.new }
+{
+    let mut done = 0;
+    while done < buf.len() {
+        let count = from.read(&mut buf[done..])?;
+        if count == 0 {
+            break;
+        }
+        done += count;
+    }
+    Ok(done)
+}
+
+fn main(rt: HostRuntime) -> io::Result<()> {
     let mut text = [0u8; MOST_BYTES];
-    let count = io::read_full(STDIN_FILENO, &mut text);
-    answer_all(&text[..count]);
+    let count = read_full(&mut rt.stdin(), &mut text)?;
+    answer_all(&rt, &text[..count])
 }
