@@ -1,4 +1,4 @@
--- The bytes read so far are within the buffer; the measure is what is left of it.
+-- `watch::streams::read_all` meets its contract. What was read is within the buffer; the measure is what is left of it.
 use Rattle.std.proofs.Common.{length, ◌-◌, ◌≤◌}
 use Rattle.watch.proofs.streams.read_all.Given as goal
 

@@ -1,4 +1,4 @@
--- The bytes written so far are within the buffer; the measure is what is left of it.
+-- `watch::streams::write_all` meets its contract. What was written is within the buffer; the measure is what is left of it.
 use Rattle.std.proofs.Common.{length, ◌-◌, ◌≤◌}
 use Rattle.watch.proofs.streams.write_all.Given as goal
 
