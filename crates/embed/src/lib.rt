@@ -1,5 +1,6 @@
 // The functions for C and Rust: numbers and slices only. What they answer is laid over the first words of a buffer that the
-// caller lends; a buffer that is too short is refused with a number of its own, and then nothing has changed.
+// caller lends; a buffer that is too short is refused with a number of its own, and then nothing has changed. `embed_c` exports
+// them.
 #![tactic(auto)]
 
 ghost use Rattle.std.specs.Prelude.{◌≡◌, [], ◌∷◌, ◌++◌, ◌%◌, ◌^◌, ◌≤◌, length};
@@ -160,8 +161,7 @@ fn put_read(answer: &mut [u32], numbers: Numbers, rows: u32, start: u32, size: u
 }
 
 // The judge. The answer's three words are the refusal's number or 0, 0, and the refusal's row.
-#[unsafe(no_mangle)]
-pub extern "C" fn buzorinde_judge(table: &[u32], answer: &mut [u32]) -> u32
+pub fn buzorinde_judge(table: &[u32], answer: &mut [u32]) -> u32
     ensures { judge_call table.now answer.old
         ≡ record { status = result; answer = answer.new } }
 {
@@ -175,8 +175,7 @@ pub extern "C" fn buzorinde_judge(table: &[u32], answer: &mut [u32]) -> u32
 
 // The level check. The answer's four words are the refusal's number or 0, 1 for a check that fails and else 0, the lowest
 // failing row or the refusal's row, and the final marks.
-#[unsafe(no_mangle)]
-pub extern "C" fn buzorinde_check(table: &[u32], marks: Marks, answer: &mut [u32]) -> u32
+pub fn buzorinde_check(table: &[u32], marks: Marks, answer: &mut [u32]) -> u32
     ensures { check_call table.now marks answer.old
         ≡ record { status = result; answer = answer.new } }
 {
@@ -192,8 +191,7 @@ pub extern "C" fn buzorinde_check(table: &[u32], marks: Marks, answer: &mut [u32
 // The run under the monitor. Memory is lent: its first 32 words are those of the variables, before and after. The answer's
 // seven words are the refusal's number or 0, the verdict, the place or the refusal's row, steps, records, marks, and what the run was
 // stopped because of.
-#[unsafe(no_mangle)]
-pub extern "C" fn buzorinde_run(
+pub fn buzorinde_run(
     table: &[u32],
     memory: &mut [u32],
     marks: Marks,
@@ -229,8 +227,7 @@ pub extern "C" fn buzorinde_run(
 
 // Reads a recipe's text into a table. The answer's seven words are the refusal's number or 0, 0, the refusal's row, how many rows
 // the table begins with, start and length of the part of the text that is handed back, and the start marks.
-#[unsafe(no_mangle)]
-pub extern "C" fn buzorinde_read(text: &[u8], table: &mut [u32], answer: &mut [u32]) -> u32
+pub fn buzorinde_read(text: &[u8], table: &mut [u32], answer: &mut [u32]) -> u32
     ensures { ReadCalls text.now table.old answer.old
         (record { status = result; table = table.new; answer = answer.new }) }
 {
