@@ -2,7 +2,7 @@
 #![tactic(auto)]
 
 ghost use Rattle.std.specs.Prelude.{◌≡◌, [], ◌∷◌, ◌+◌, ◌*◌, ◌≤◌, length, take, drop};
-ghost use Rattle.std.proofs.lemmas.List.Edits.{sets};
+ghost use lib.Seq.{sets};
 ghost use Rattle.rules.specs.Limits.{width, row_words, most_rows, table_words};
 ghost use Rattle.lines.specs.Limits.{most_word};
 ghost use Rattle.numbers.specs.Read.{field_said};

@@ -1,6 +1,6 @@
 -- Rows that are put into a table of the most rows, one after the other; what comes after the last row of a table is put nowhere.
 use Rattle.std.specs.Prelude.{ℕ, ◌+◌, ◌*◌, cond, List, [], ◌∷◌, ltb}
-use Rattle.std.proofs.lemmas.List.Edits.{sets}
+use lib.Seq.{sets}
 use Rattle.rules.specs.Limits.{row_words, most_rows}
 use Rattle.rules.specs.Cases.{Quad, words_of}
 

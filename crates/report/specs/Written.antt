@@ -1,6 +1,6 @@
 -- What a report leaves in a buffer that is lent for it, and what the writer answers.
 use Rattle.std.specs.Prelude.{ℕ, zero, suc, ◌+◌, ◌*◌, ◌≤◌, Bool, true, false, ◌≡◌, List, [], ◌∷◌, ◌++◌, leb, length, drop}
-use Rattle.std.proofs.lemmas.List.Edits.{sets}
+use lib.Seq.{sets}
 use Rattle.rules.specs.declared.Ended.{Ended}
 use Rattle.rules.specs.declared.Answer.{Answer}
 use Rattle.rules.specs.Limits.{width, record_words}

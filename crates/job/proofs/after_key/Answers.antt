@@ -1,5 +1,4 @@
--- `job::after_key` meets its contract. The loop's invariant: what is left of the key, at the place reached, is found where
--- the key is found at its place. Assumes nothing.
+-- `job::after_key` meets its contract. Assumes nothing.
 use mathlib.Core.Path.{refl, ◌∙◌}
 use Rattle.lines.proofs.LineLaws.{key_again, key_differs, key_short, key_end}
 use Rattle.job.proofs.after_key.Goals as goal

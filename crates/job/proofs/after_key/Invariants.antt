@@ -1,5 +1,4 @@
--- `job::after_key` meets its contract. The loop's invariant: what is left of the key, at the place reached, is found where
--- the key is found at its place. Assumes nothing.
+-- The loop's invariant: what is left of the key, at the place reached, is found where the key is found at its place.
 use Prim.Native.Nat.{◌-◌}
 use mathlib.Core.Path.{◌≡◌}
 use lib.ListN.{length, drop}

@@ -1,4 +1,3 @@
--- `job::fill_numbers` meets its contract. Assumes nothing.
 use Prim.Native.Nat.{◌-◌}
 use Rattle.job.specs.Jobs.{number_lines}
 use Rattle.job.proofs.FillLaws.{Filling}

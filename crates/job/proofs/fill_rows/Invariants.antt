@@ -1,4 +1,3 @@
--- `job::fill_rows` meets its contract. Assumes nothing.
 use Prim.Native.Nat.{◌-◌, ◌*◌}
 use Rattle.rules.specs.Limits.{row_words}
 use Rattle.lines.specs.Lines.{lines_of}

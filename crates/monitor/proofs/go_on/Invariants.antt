@@ -1,4 +1,3 @@
--- `monitor::go_on` meets its contract.
 use Prim.Native.Nat.{◌-◌}
 use Rattle.rules.specs.Rows.{rows_of}
 use Rattle.step.specs.Denoted.{arrays}

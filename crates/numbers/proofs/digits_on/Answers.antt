@@ -1,5 +1,4 @@
--- `numbers::digits_on` meets its contract. The loop's invariant: the digits that are left go on from the value so far as the
--- digits from the start do from the first value. Assumes nothing.
+-- `numbers::digits_on` meets its contract. Assumes nothing.
 use mathlib.Core.Path.{refl, sym, ◌∙◌}
 use Rattle.lines.proofs.NumberLaws.{digits_again, digits_stop, digits_end}
 use native.Mathlib.Omega.{arith}

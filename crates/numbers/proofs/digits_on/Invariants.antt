@@ -1,5 +1,5 @@
--- `numbers::digits_on` meets its contract. The loop's invariant: the digits that are left go on from the value so far as the
--- digits from the start do from the first value. Assumes nothing.
+-- The loop's invariant: the digits that are left go on from the value so far as the digits from the start do from the first
+-- value.
 use Prim.Native.Nat.{◌-◌, ◌≤◌}
 use mathlib.Core.Path.{◌≡◌}
 use lib.ListN.{length, drop}

@@ -1,5 +1,4 @@
--- `report::put_key` meets its contract. The loop's invariant: what is left of the key leads to the whole key in its place.
--- Assumes nothing.
+-- `report::put_key` meets its contract. Assumes nothing.
 use mathlib.Core.Path.{refl}
 use lib.ListN.{length-set}
 use Rattle.report.proofs.WriteLaws.{leads_start, leads_byte, leads_bytes}

@@ -1,5 +1,4 @@
--- `report::put_key` meets its contract. The loop's invariant: what is left of the key leads to the whole key in its place.
--- Assumes nothing.
+-- The loop's invariant: what is left of the key leads to the whole key in its place.
 use Prim.Native.Nat.{◌+◌, ◌-◌, ◌≤◌}
 use mathlib.Core.Path.{◌≡◌}
 use lib.ListN.{length, drop}

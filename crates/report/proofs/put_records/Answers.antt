@@ -1,5 +1,4 @@
--- `report::put_records` meets its contract. The loop's invariant: the records from i on lead to all of them in their place.
--- Assumes nothing.
+-- `report::put_records` meets its contract. Assumes nothing.
 use Prim.Native.Nat.{◌*◌}
 use mathlib.Core.Path.{refl, ◌∙◌}
 use Rattle.report.specs.Written.{most_record}

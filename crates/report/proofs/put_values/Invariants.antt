@@ -1,5 +1,4 @@
--- `report::put_values` meets its contract. The loop's invariant: the values from variable i on lead to all of them in their
--- place. Assumes nothing.
+-- The loop's invariant: the values from variable i on lead to all of them in their place.
 use Prim.Native.Nat.{◌+◌, ◌-◌, ◌*◌, ◌≤◌}
 use mathlib.Core.Path.{◌≡◌}
 use lib.ListN.{length}

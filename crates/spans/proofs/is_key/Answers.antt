@@ -1,5 +1,4 @@
--- `spans::is_key` meets its contract. The loop's invariant: what is left of the key is what is left of the word where the key
--- is the word. Assumes nothing.
+-- `spans::is_key` meets its contract. Assumes nothing.
 use native.Mathlib.Omega.{arith}
 use mathlib.Core.Path.{refl, ◌∙◌}
 use Rattle.spans.proofs.WordLaws.{same_again, same_differs, same_end, same_lengths}

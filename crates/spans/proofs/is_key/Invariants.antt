@@ -1,5 +1,4 @@
--- `spans::is_key` meets its contract. The loop's invariant: what is left of the key is what is left of the word where the key
--- is the word. Assumes nothing.
+-- The loop's invariant: what is left of the key is what is left of the word where the key is the word.
 use Prim.Native.Nat.{◌-◌}
 use mathlib.Core.Path.{◌≡◌}
 use lib.ListN.{length, drop}

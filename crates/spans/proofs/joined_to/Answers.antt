@@ -1,4 +1,4 @@
--- `spans::joined_to` meets its contract. The loop's invariant: letters and digits stand up to the place reached. Assumes nothing.
+-- `spans::joined_to` meets its contract. Assumes nothing.
 use native.Mathlib.Omega.{arith}
 use mathlib.Core.Path.{sym, ◌∙◌}
 use borrow.Author.Count.{below_more}

@@ -1,4 +1,4 @@
--- `spans::joined_to` meets its contract. The loop's invariant: letters and digits stand up to the place reached. Assumes nothing.
+-- The loop's invariant: letters and digits stand up to the place reached.
 use Prim.Native.Nat.{ℕ, ◌-◌, ◌≤◌, ◌<◌}
 use mathlib.Core.Bool.{true}
 use mathlib.Core.Path.{◌≡◌}

@@ -1,5 +1,4 @@
--- `spans::start_at` meets its contract. The loop's invariant: the words from the place reached on are those from the first
--- place on. Assumes nothing.
+-- `spans::start_at` meets its contract. Assumes nothing.
 use native.Mathlib.Omega.{arith}
 use mathlib.Core.Path.{refl, sym, ◌∙◌}
 use lib.ListN.{length}

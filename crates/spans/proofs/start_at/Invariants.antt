@@ -1,5 +1,4 @@
--- `spans::start_at` meets its contract. The loop's invariant: the words from the place reached on are those from the first
--- place on. Assumes nothing.
+-- The loop's invariant: the words from the place reached on are those from the first place on.
 use Prim.Native.Nat.{◌-◌, ◌≤◌}
 use mathlib.Core.Path.{◌≡◌}
 use lib.ListN.{length}

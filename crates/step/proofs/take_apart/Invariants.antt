@@ -1,4 +1,3 @@
--- `step::take_apart` meets its contract.
 use Rattle.rules.specs.Rows.{rows_of}
 use Rattle.step.specs.Turns.{Apart, Found}
 use Rattle.step.proofs.take_apart.Given as goal

@@ -1,4 +1,4 @@
--- `leaves::copy::copy_words` meets its contract: after i turns the first i words are copied.
+-- `leaves::copy::copy_words` meets its contract.
 use Rattle.std.proofs.Common.{◌≡◌, ℕ, ◌<◌, min, List, ◌++◌, length, get_or, take, drop, set, refl, ap, ◌∙◌, arith, length-set}
 use Rattle.leaves.proofs.CopyLaws.{copied_more}
 use Rattle.leaves.proofs.copy.copy_words.Goals as goal

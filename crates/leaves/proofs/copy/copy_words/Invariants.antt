@@ -1,4 +1,4 @@
--- `leaves::copy::copy_words` meets its contract: after i turns the first i words are copied.
+-- The loop's invariant: after i turns the first i words are copied.
 use Rattle.std.proofs.Common.{◌≡◌, ◌-◌, ◌≤◌, min, ◌++◌, length, take, drop}
 use Rattle.leaves.proofs.copy.copy_words.Given as goal
 

@@ -97,8 +97,8 @@ pub walk_lent-returns-then-n-base : goal.walk_lent-returns-then-n-base
 walk_lent-returns-then-n-base t c =
     let pre = c.requires in
     record {
-      found = way_end pre c.loop-pending.invariant c.walk_part-part.ensures.kept (taking_part _ _ _ c.loop-pending.found c.walk_part-part.result c.lower.result c.walk_part-part.ensures.found c.lower.ensures) c.if-n-base.true;
-      kept = kept_here pre c.loop-pending.invariant c.walk_part-part.ensures.kept (taking_part _ _ _ c.loop-pending.found c.walk_part-part.result c.lower.result c.walk_part-part.ensures.found c.lower.ensures);
+      found = way_end pre c.loop-pending.invariant c.walk_part-part.ensures.kept (taking_part _ _ _ _ _ _ c.walk_part-part.ensures.found c.lower.ensures) c.if-n-base.true;
+      kept = kept_here pre c.loop-pending.invariant c.walk_part-part.ensures.kept (taking_part _ _ _ _ _ _ c.walk_part-part.ensures.found c.lower.ensures);
     }
 
 pub walk_lent-overflow_sub-n : goal.walk_lent-overflow_sub-n
@@ -116,16 +116,16 @@ walk_lent-bounds-pending-n-in-loop-pending t c =
 pub walk_lent-overflow_cast-at : goal.walk_lent-overflow_cast-at
 walk_lent-overflow_cast-at t c =
     let pre = c.requires in
-    let next = way_on pre c.loop-pending.invariant c.walk_part-part.ensures.kept (taking_part _ _ _ c.loop-pending.found c.walk_part-part.result c.lower.result c.walk_part-part.ensures.found c.lower.ensures) c.if-n-base.false in
+    let next = way_on pre c.loop-pending.invariant c.walk_part-part.ensures.kept (taking_part _ _ _ _ _ _ c.walk_part-part.ensures.found c.lower.ensures) c.if-n-base.false in
     record { fits = omega (arith, within_here pre next, pre.sound.few) }
 
 pub walk_lent-loop-pending-smaller : goal.walk_lent-loop-pending-smaller
 walk_lent-loop-pending-smaller t c =
-    on_less c.requires c.loop-pending.invariant c.walk_part-part.ensures.kept (taking_part _ _ _ c.loop-pending.found c.walk_part-part.result c.lower.result c.walk_part-part.ensures.found c.lower.ensures) c.if-n-base.false
+    on_less c.requires c.loop-pending.invariant c.walk_part-part.ensures.kept (taking_part _ _ _ _ _ _ c.walk_part-part.ensures.found c.lower.ensures) c.if-n-base.false
 
 pub walk_lent-loop-pending-preserved : goal.walk_lent-loop-pending-preserved
 walk_lent-loop-pending-preserved t c =
-    way_on c.requires c.loop-pending.invariant c.walk_part-part.ensures.kept (taking_part _ _ _ c.loop-pending.found c.walk_part-part.result c.lower.result c.walk_part-part.ensures.found c.lower.ensures) c.if-n-base.false
+    way_on c.requires c.loop-pending.invariant c.walk_part-part.ensures.kept (taking_part _ _ _ _ _ _ c.walk_part-part.ensures.found c.lower.ensures) c.if-n-base.false
 
 pub walk_loop-loop-left-init : goal.walk_loop-loop-left-init
 walk_loop-loop-left-init t c = (refl, kept_same c.args.pending.now c.args.base)

@@ -1,5 +1,4 @@
--- `reader::expressions::read_expression` meets its contract. The loop's invariant: the expression is read as far as the state says.
--- The measure is what is left of the text. Assumes nothing.
+-- `reader::expressions::read_expression` meets its contract. Assumes nothing.
 use native.Mathlib.Omega.{arith}
 use Rattle.reader.proofs.TurnLaws.{at_first, went_further, went_on, went_wrong, went_over}
 use Rattle.reader.proofs.expressions.read_expression.Goals as goal

@@ -1,5 +1,4 @@
--- `reader::expressions::read_expression` meets its contract. The loop's invariant: the expression is read as far as the state says.
--- The measure is what is left of the text. Assumes nothing.
+-- The loop's invariant: the expression is read as far as the state says. The measure is what is left of the text.
 use Prim.Native.Nat.{◌-◌}
 use lib.ListN.{length}
 use Rattle.reader.specs.Frames.{Ready, Reached}

@@ -1,5 +1,4 @@
--- `reader::head::read_head` meets its contract. The loop's invariant: these declarations stand at the front of the text. The measure
--- is what is left of the text. Assumes nothing.
+-- The loop's invariant: these declarations stand at the front of the text. The measure is what is left of the text.
 use Prim.Native.Nat.{◌-◌}
 use lib.ListN.{length}
 use Rattle.reader.specs.Heads.{Declarations}

@@ -96,7 +96,7 @@ read_if-read_expression-step-requires t c =
 
 pub read_if-read_block-step-requires : goal.read_if-read_block-step-requires
 read_if-read_block-step-requires t c =
-    let tested = test_ended c.requires.0 spells_then c.read_expression-step.result c.read_expression-step.new.rows c.read_expression-step.ensures.0 c.ended-step.ensures c.in-Next.is in
+    let tested = test_ended c.requires.0 spells_then _ _ c.read_expression-step.ensures.0 c.ended-step.ensures c.in-Next.is in
     let asked = asked_on c.requires.0 tested in
     let e = tested in (
       omega (arith, c.decreases, e.few, e.counted, e.inside),
@@ -105,9 +105,9 @@ read_if-read_block-step-requires t c =
 
 pub read_if-read_block-step-requires-in-Next-step : goal.read_if-read_block-step-requires-in-Next-step
 read_if-read_block-step-requires-in-Next-step t c =
-    let tested = test_ended c.requires.0 spells_then c.read_expression-step.result c.read_expression-step.new.rows c.read_expression-step.ensures.0 c.ended-step.ensures c.in-Next.is in
+    let tested = test_ended c.requires.0 spells_then _ _ c.read_expression-step.ensures.0 c.ended-step.ensures c.in-Next.is in
     let asked = asked_on c.requires.0 tested in
-    let chosen = block_ended asked spells_else with_else c.read_block-step.result c.read_block-step.new.rows c.read_block-step.ensures.0 c.ended-step-in-Next.ensures c.in-Next-step.is in
+    let chosen = block_ended asked spells_else with_else _ _ c.read_block-step.ensures.0 c.ended-step-in-Next.ensures c.in-Next-step.is in
     let again = asked_on asked chosen in
     let e = tested in
     let b = chosen in (
@@ -117,71 +117,71 @@ read_if-read_block-step-requires-in-Next-step t c =
 
 pub read_if-overflow_sub-tested : goal.read_if-overflow_sub-tested
 read_if-overflow_sub-tested t c =
-    let tested = test_ended c.requires.0 spells_then c.read_expression-step.result c.read_expression-step.new.rows c.read_expression-step.ensures.0 c.ended-step.ensures c.in-Next.is in
+    let tested = test_ended c.requires.0 spells_then _ _ c.read_expression-step.ensures.0 c.ended-step.ensures c.in-Next.is in
     let asked = asked_on c.requires.0 tested in
-    let chosen = block_ended asked spells_else with_else c.read_block-step.result c.read_block-step.new.rows c.read_block-step.ensures.0 c.ended-step-in-Next.ensures c.in-Next-step.is in
+    let chosen = block_ended asked spells_else with_else _ _ c.read_block-step.ensures.0 c.ended-step-in-Next.ensures c.in-Next-step.is in
     let again = asked_on asked chosen in
-    let told = block_ended again spells_end with_end c.read_block-step-in-Next-step.result c.read_block-step-in-Next-step.new.rows c.read_block-step-in-Next-step.ensures.0 c.ended-step-in-Next-step.ensures c.in-Next-step-2.is in
+    let told = block_ended again spells_end with_end _ _ c.read_block-step-in-Next-step.ensures.0 c.ended-step-in-Next-step.ensures c.in-Next-step-2.is in
     omega (arith, tested.counted, chosen.counted, told.counted)
 
 pub read_if-overflow_sub-chosen : goal.read_if-overflow_sub-chosen
 read_if-overflow_sub-chosen t c =
-    let tested = test_ended c.requires.0 spells_then c.read_expression-step.result c.read_expression-step.new.rows c.read_expression-step.ensures.0 c.ended-step.ensures c.in-Next.is in
+    let tested = test_ended c.requires.0 spells_then _ _ c.read_expression-step.ensures.0 c.ended-step.ensures c.in-Next.is in
     let asked = asked_on c.requires.0 tested in
-    let chosen = block_ended asked spells_else with_else c.read_block-step.result c.read_block-step.new.rows c.read_block-step.ensures.0 c.ended-step-in-Next.ensures c.in-Next-step.is in
+    let chosen = block_ended asked spells_else with_else _ _ c.read_block-step.ensures.0 c.ended-step-in-Next.ensures c.in-Next-step.is in
     let again = asked_on asked chosen in
-    let told = block_ended again spells_end with_end c.read_block-step-in-Next-step.result c.read_block-step-in-Next-step.new.rows c.read_block-step-in-Next-step.ensures.0 c.ended-step-in-Next-step.ensures c.in-Next-step-2.is in
+    let told = block_ended again spells_end with_end _ _ c.read_block-step-in-Next-step.ensures.0 c.ended-step-in-Next-step.ensures c.in-Next-step-2.is in
     omega (arith, tested.counted, chosen.counted, told.counted)
 
 pub read_if-overflow_sub-total : goal.read_if-overflow_sub-total
 read_if-overflow_sub-total t c =
-    let tested = test_ended c.requires.0 spells_then c.read_expression-step.result c.read_expression-step.new.rows c.read_expression-step.ensures.0 c.ended-step.ensures c.in-Next.is in
+    let tested = test_ended c.requires.0 spells_then _ _ c.read_expression-step.ensures.0 c.ended-step.ensures c.in-Next.is in
     let asked = asked_on c.requires.0 tested in
-    let chosen = block_ended asked spells_else with_else c.read_block-step.result c.read_block-step.new.rows c.read_block-step.ensures.0 c.ended-step-in-Next.ensures c.in-Next-step.is in
+    let chosen = block_ended asked spells_else with_else _ _ c.read_block-step.ensures.0 c.ended-step-in-Next.ensures c.in-Next-step.is in
     let again = asked_on asked chosen in
-    let told = block_ended again spells_end with_end c.read_block-step-in-Next-step.result c.read_block-step-in-Next-step.new.rows c.read_block-step-in-Next-step.ensures.0 c.ended-step-in-Next-step.ensures c.in-Next-step-2.is in
+    let told = block_ended again spells_end with_end _ _ c.read_block-step-in-Next-step.ensures.0 c.ended-step-in-Next-step.ensures c.in-Next-step-2.is in
     omega (arith, tested.counted, chosen.counted, told.counted)
 
 pub read_if-put_row-requires : goal.read_if-put_row-requires
 read_if-put_row-requires t c =
-    let tested = test_ended c.requires.0 spells_then c.read_expression-step.result c.read_expression-step.new.rows c.read_expression-step.ensures.0 c.ended-step.ensures c.in-Next.is in
+    let tested = test_ended c.requires.0 spells_then _ _ c.read_expression-step.ensures.0 c.ended-step.ensures c.in-Next.is in
     let asked = asked_on c.requires.0 tested in
-    let chosen = block_ended asked spells_else with_else c.read_block-step.result c.read_block-step.new.rows c.read_block-step.ensures.0 c.ended-step-in-Next.ensures c.in-Next-step.is in
+    let chosen = block_ended asked spells_else with_else _ _ c.read_block-step.ensures.0 c.ended-step-in-Next.ensures c.in-Next-step.is in
     let again = asked_on asked chosen in
-    let told = block_ended again spells_end with_end c.read_block-step-in-Next-step.result c.read_block-step-in-Next-step.new.rows c.read_block-step-in-Next-step.ensures.0 c.ended-step-in-Next-step.ensures c.in-Next-step-2.is in
+    let told = block_ended again spells_end with_end _ _ c.read_block-step-in-Next-step.ensures.0 c.ended-step-in-Next-step.ensures c.in-Next-step-2.is in
     (asked_on again told).long
 
 pub read_if-overflow_add-result : goal.read_if-overflow_add-result
 read_if-overflow_add-result t c =
-    let tested = test_ended c.requires.0 spells_then c.read_expression-step.result c.read_expression-step.new.rows c.read_expression-step.ensures.0 c.ended-step.ensures c.in-Next.is in
+    let tested = test_ended c.requires.0 spells_then _ _ c.read_expression-step.ensures.0 c.ended-step.ensures c.in-Next.is in
     let asked = asked_on c.requires.0 tested in
-    let chosen = block_ended asked spells_else with_else c.read_block-step.result c.read_block-step.new.rows c.read_block-step.ensures.0 c.ended-step-in-Next.ensures c.in-Next-step.is in
+    let chosen = block_ended asked spells_else with_else _ _ c.read_block-step.ensures.0 c.ended-step-in-Next.ensures c.in-Next-step.is in
     let again = asked_on asked chosen in
-    let told = block_ended again spells_end with_end c.read_block-step-in-Next-step.result c.read_block-step-in-Next-step.new.rows c.read_block-step-in-Next-step.ensures.0 c.ended-step-in-Next-step.ensures c.in-Next-step-2.is in
+    let told = block_ended again spells_end with_end _ _ c.read_block-step-in-Next-step.ensures.0 c.ended-step-in-Next-step.ensures c.in-Next-step-2.is in
     let a = asked_on again told in
     omega (arith, a.inside, a.short, a.few)
 
 pub read_if-returns-in-Faulty : goal.read_if-returns-in-Faulty
 read_if-returns-in-Faulty t c =
-    let s = test_ended c.requires.0 spells_then c.read_expression-step.result c.read_expression-step.new.rows c.read_expression-step.ensures.0 c.ended-step.ensures c.in-Faulty.is in
+    let s = test_ended c.requires.0 spells_then _ _ c.read_expression-step.ensures.0 c.ended-step.ensures c.in-Faulty.is in
     ((λ at w. (stuck_if w (stuck_more s.0 (statement ∷ rest at_else ∷ [])), s.1)), c.read_expression-step.ensures.1)
 
 pub read_if-returns-in-Faulty-step : goal.read_if-returns-in-Faulty-step
 read_if-returns-in-Faulty-step t c =
-    let tested = test_ended c.requires.0 spells_then c.read_expression-step.result c.read_expression-step.new.rows c.read_expression-step.ensures.0 c.ended-step.ensures c.in-Next.is in
+    let tested = test_ended c.requires.0 spells_then _ _ c.read_expression-step.ensures.0 c.ended-step.ensures c.in-Next.is in
     let asked = asked_on c.requires.0 tested in
-    let s = block_ended asked spells_else with_else c.read_block-step.result c.read_block-step.new.rows c.read_block-step.ensures.0 c.ended-step-in-Next.ensures c.in-Faulty-step.is in (
+    let s = block_ended asked spells_else with_else _ _ c.read_block-step.ensures.0 c.ended-step-in-Next.ensures c.in-Faulty-step.is in (
       (λ at w. (stuck_if w (stuck_tested (statement ∷ rest at_else ∷ []) tested s.0), s.1)),
       c.read_block-step.ensures.1,
     )
 
 pub read_if-returns-in-Faulty-step-2 : goal.read_if-returns-in-Faulty-step-2
 read_if-returns-in-Faulty-step-2 t c =
-    let tested = test_ended c.requires.0 spells_then c.read_expression-step.result c.read_expression-step.new.rows c.read_expression-step.ensures.0 c.ended-step.ensures c.in-Next.is in
+    let tested = test_ended c.requires.0 spells_then _ _ c.read_expression-step.ensures.0 c.ended-step.ensures c.in-Next.is in
     let asked = asked_on c.requires.0 tested in
-    let chosen = block_ended asked spells_else with_else c.read_block-step.result c.read_block-step.new.rows c.read_block-step.ensures.0 c.ended-step-in-Next.ensures c.in-Next-step.is in
+    let chosen = block_ended asked spells_else with_else _ _ c.read_block-step.ensures.0 c.ended-step-in-Next.ensures c.in-Next-step.is in
     let again = asked_on asked chosen in
-    let s = block_ended again spells_end with_end c.read_block-step-in-Next-step.result c.read_block-step-in-Next-step.new.rows c.read_block-step-in-Next-step.ensures.0 c.ended-step-in-Next-step.ensures c.in-Faulty-step-2.is in (
+    let s = block_ended again spells_end with_end _ _ c.read_block-step-in-Next-step.ensures.0 c.ended-step-in-Next-step.ensures c.in-Faulty-step-2.is in (
       (λ at w. (
         stuck_if w
             (stuck_tested (statement ∷ rest at_else ∷ []) tested (stuck_chosen chosen s.0)),
@@ -192,11 +192,11 @@ read_if-returns-in-Faulty-step-2 t c =
 
 pub read_if-returns-in-Next-step-2 : goal.read_if-returns-in-Next-step-2
 read_if-returns-in-Next-step-2 t c =
-    let tested = test_ended c.requires.0 spells_then c.read_expression-step.result c.read_expression-step.new.rows c.read_expression-step.ensures.0 c.ended-step.ensures c.in-Next.is in
+    let tested = test_ended c.requires.0 spells_then _ _ c.read_expression-step.ensures.0 c.ended-step.ensures c.in-Next.is in
     let asked = asked_on c.requires.0 tested in
-    let chosen = block_ended asked spells_else with_else c.read_block-step.result c.read_block-step.new.rows c.read_block-step.ensures.0 c.ended-step-in-Next.ensures c.in-Next-step.is in
+    let chosen = block_ended asked spells_else with_else _ _ c.read_block-step.ensures.0 c.ended-step-in-Next.ensures c.in-Next-step.is in
     let again = asked_on asked chosen in
-    let told = block_ended again spells_end with_end c.read_block-step-in-Next-step.result c.read_block-step-in-Next-step.new.rows c.read_block-step-in-Next-step.ensures.0 c.ended-step-in-Next-step.ensures c.in-Next-step-2.is in (
+    let told = block_ended again spells_end with_end _ _ c.read_block-step-in-Next-step.ensures.0 c.ended-step-in-Next-step.ensures c.in-Next-step-2.is in (
       (λ at w. if_read w tested chosen told c.put_row.ensures),
       c.read_block-step-in-Next-step.ensures.1,
     )
@@ -349,7 +349,7 @@ read_while-read_expression-step-requires t c =
 
 pub read_while-read_block-step-requires : goal.read_while-read_block-step-requires
 read_while-read_block-step-requires t c =
-    let tested = test_ended c.requires.0 spells_doing c.read_expression-step.result c.read_expression-step.new.rows c.read_expression-step.ensures.0 c.ended-step.ensures c.in-Next.is in
+    let tested = test_ended c.requires.0 spells_doing _ _ c.read_expression-step.ensures.0 c.ended-step.ensures c.in-Next.is in
     let asked = asked_on c.requires.0 tested in
     let e = tested in (
       omega (arith, c.decreases, e.few, e.counted, e.inside),
@@ -358,52 +358,52 @@ read_while-read_block-step-requires t c =
 
 pub read_while-overflow_sub-tested : goal.read_while-overflow_sub-tested
 read_while-overflow_sub-tested t c =
-    let tested = test_ended c.requires.0 spells_doing c.read_expression-step.result c.read_expression-step.new.rows c.read_expression-step.ensures.0 c.ended-step.ensures c.in-Next.is in
+    let tested = test_ended c.requires.0 spells_doing _ _ c.read_expression-step.ensures.0 c.ended-step.ensures c.in-Next.is in
     let asked = asked_on c.requires.0 tested in
-    let told = block_ended asked spells_end with_end c.read_block-step.result c.read_block-step.new.rows c.read_block-step.ensures.0 c.ended-step-in-Next.ensures c.in-Next-step.is in
+    let told = block_ended asked spells_end with_end _ _ c.read_block-step.ensures.0 c.ended-step-in-Next.ensures c.in-Next-step.is in
     omega (arith, tested.counted, told.counted)
 
 pub read_while-overflow_sub-total : goal.read_while-overflow_sub-total
 read_while-overflow_sub-total t c =
-    let tested = test_ended c.requires.0 spells_doing c.read_expression-step.result c.read_expression-step.new.rows c.read_expression-step.ensures.0 c.ended-step.ensures c.in-Next.is in
+    let tested = test_ended c.requires.0 spells_doing _ _ c.read_expression-step.ensures.0 c.ended-step.ensures c.in-Next.is in
     let asked = asked_on c.requires.0 tested in
-    let told = block_ended asked spells_end with_end c.read_block-step.result c.read_block-step.new.rows c.read_block-step.ensures.0 c.ended-step-in-Next.ensures c.in-Next-step.is in
+    let told = block_ended asked spells_end with_end _ _ c.read_block-step.ensures.0 c.ended-step-in-Next.ensures c.in-Next-step.is in
     omega (arith, tested.counted, told.counted)
 
 pub read_while-put_row-requires : goal.read_while-put_row-requires
 read_while-put_row-requires t c =
-    let tested = test_ended c.requires.0 spells_doing c.read_expression-step.result c.read_expression-step.new.rows c.read_expression-step.ensures.0 c.ended-step.ensures c.in-Next.is in
+    let tested = test_ended c.requires.0 spells_doing _ _ c.read_expression-step.ensures.0 c.ended-step.ensures c.in-Next.is in
     let asked = asked_on c.requires.0 tested in
-    let told = block_ended asked spells_end with_end c.read_block-step.result c.read_block-step.new.rows c.read_block-step.ensures.0 c.ended-step-in-Next.ensures c.in-Next-step.is in
+    let told = block_ended asked spells_end with_end _ _ c.read_block-step.ensures.0 c.ended-step-in-Next.ensures c.in-Next-step.is in
     (asked_on asked told).long
 
 pub read_while-overflow_add-result : goal.read_while-overflow_add-result
 read_while-overflow_add-result t c =
-    let tested = test_ended c.requires.0 spells_doing c.read_expression-step.result c.read_expression-step.new.rows c.read_expression-step.ensures.0 c.ended-step.ensures c.in-Next.is in
+    let tested = test_ended c.requires.0 spells_doing _ _ c.read_expression-step.ensures.0 c.ended-step.ensures c.in-Next.is in
     let asked = asked_on c.requires.0 tested in
-    let told = block_ended asked spells_end with_end c.read_block-step.result c.read_block-step.new.rows c.read_block-step.ensures.0 c.ended-step-in-Next.ensures c.in-Next-step.is in
+    let told = block_ended asked spells_end with_end _ _ c.read_block-step.ensures.0 c.ended-step-in-Next.ensures c.in-Next-step.is in
     let a = asked_on asked told in
     omega (arith, a.inside, a.short, a.few)
 
 pub read_while-returns-in-Faulty : goal.read_while-returns-in-Faulty
 read_while-returns-in-Faulty t c =
-    let s = test_ended c.requires.0 spells_doing c.read_expression-step.result c.read_expression-step.new.rows c.read_expression-step.ensures.0 c.ended-step.ensures c.in-Faulty.is in
+    let s = test_ended c.requires.0 spells_doing _ _ c.read_expression-step.ensures.0 c.ended-step.ensures c.in-Faulty.is in
     ((λ at w. (stuck_while w (stuck_more s.0 (statement ∷ rest at_end ∷ [])), s.1)), c.read_expression-step.ensures.1)
 
 pub read_while-returns-in-Faulty-step : goal.read_while-returns-in-Faulty-step
 read_while-returns-in-Faulty-step t c =
-    let tested = test_ended c.requires.0 spells_doing c.read_expression-step.result c.read_expression-step.new.rows c.read_expression-step.ensures.0 c.ended-step.ensures c.in-Next.is in
+    let tested = test_ended c.requires.0 spells_doing _ _ c.read_expression-step.ensures.0 c.ended-step.ensures c.in-Next.is in
     let asked = asked_on c.requires.0 tested in
-    let s = block_ended asked spells_end with_end c.read_block-step.result c.read_block-step.new.rows c.read_block-step.ensures.0 c.ended-step-in-Next.ensures c.in-Faulty-step.is in (
+    let s = block_ended asked spells_end with_end _ _ c.read_block-step.ensures.0 c.ended-step-in-Next.ensures c.in-Faulty-step.is in (
       (λ at w. (stuck_while w (stuck_tested (statement ∷ rest at_end ∷ []) tested s.0), s.1)),
       c.read_block-step.ensures.1,
     )
 
 pub read_while-returns-in-Next-step : goal.read_while-returns-in-Next-step
 read_while-returns-in-Next-step t c =
-    let tested = test_ended c.requires.0 spells_doing c.read_expression-step.result c.read_expression-step.new.rows c.read_expression-step.ensures.0 c.ended-step.ensures c.in-Next.is in
+    let tested = test_ended c.requires.0 spells_doing _ _ c.read_expression-step.ensures.0 c.ended-step.ensures c.in-Next.is in
     let asked = asked_on c.requires.0 tested in
-    let told = block_ended asked spells_end with_end c.read_block-step.result c.read_block-step.new.rows c.read_block-step.ensures.0 c.ended-step-in-Next.ensures c.in-Next-step.is in (
+    let told = block_ended asked spells_end with_end _ _ c.read_block-step.ensures.0 c.ended-step-in-Next.ensures c.in-Next-step.is in (
       (λ at w. while_read w tested told c.put_row.ensures),
       c.read_block-step.ensures.1,
     )

@@ -1,4 +1,4 @@
--- `table::children::judge_children` meets its contract: what is left to search gives the same answer as the whole.
+-- `table::children::judge_children` meets its contract.
 use Prim.Native.Nat.{◌-◌}
 use native.Mathlib.Omega.{arith}
 use mathlib.Core.Path.{◌≡◌, sym, ap, ◌∙◌}

@@ -1,15 +1,31 @@
--- `table::depths::judge_depths` meets its contract: what is left to search gives the same answer as the whole.
-use Prim.Native.Nat.{◌-◌}
+-- `table::depths::judge_depths` meets its contract.
+use Prim.Native.Nat.{ℕ, ◌-◌, ◌%◌, ◌<◌, ◌≤◌}
 use native.Mathlib.Omega.{arith}
+use mathlib.Core.List.{List}
 use mathlib.Core.Path.{◌≡◌, sym, ap, ◌∙◌}
-use lib.ListN.{length}
-use Rattle.rules.specs.Rows.{rows_of}
+use lib.ListN.{length, get_or}
+use Rattle.rules.specs.declared.Depth.{Depth}
+use Rattle.rules.specs.declared.Judged.{Judged}
+use Rattle.rules.specs.declared.Row.{Row}
+use Rattle.rules.specs.Limits.{most_rows}
+use Rattle.rules.specs.Rows.{rows_of, row_at}
 use Rattle.rules.specs.Judging.{lowest}
-use Rattle.rules.specs.OnePass.{depth_at, over_limits}
+use Rattle.rules.specs.OnePass.{depth_at, depth_by, over_limits}
 use Rattle.rules.proofs.JudgeLaws.{lowest_step, lowest_found, lowest_end, fitting_rows}
 use Rattle.rules.proofs.RefusalLaws.{within_limits, too_deep_law}
-use Rattle.table.proofs.DepthLaws.{kept_none, kept_more, kept_depth}
+use Rattle.table.specs.Refused.{refused_words, refused_children}
+use Rattle.table.proofs.DepthLaws.{flat, Kept, kept_none, kept_more, kept_depth}
 use Rattle.table.proofs.depths.judge_depths.Goals as goal
+
+-- the depth that a turn finds is the row's
+next_depth :
+    (rows : List Row) {depths : List Depth} {count i p q r : ℕ} {row : Row} {d : Depth} → (count ≤ most_rows) × (count ≡ length rows)
+    → (refused_words rows ≡ Judged.Accepted) × (refused_children rows ≡ Judged.Accepted) → Kept rows depths i → i < count
+    → row ≡ row_at rows i → p ≡ row.p % most_rows → q ≡ row.q % most_rows → r ≡ row.r % most_rows
+    → d ≡ depth_by row.kind (get_or depths p flat) (get_or depths q flat) (get_or depths r flat) → d ≡ depth_at rows i
+next_depth rows {depths} {i = i} counted accepted kept more read hp hq hr known =
+    known
+    ∙ kept_depth rows depths i _ _ _ _ (fitting_rows rows accepted.0 accepted.1) kept (omega (arith, counted.1)) (omega (arith, counted.0)) read hp hq hr
 
 pub loop-i-init : goal.loop-i-init
 loop-i-init c =
@@ -44,13 +60,9 @@ depth_by-depth-requires c =
 
 pub returns-then-over_limits : goal.returns-then-over_limits
 returns-then-over_limits c =
-    let rows = rows_of c.args.table.now in
-    let found : c.depth_by-depth.result ≡ depth_at rows c.loop-i.i =
-    c.depth_by-depth.ensures
-    ∙ kept_depth rows c.loop-i.depths c.loop-i.i c.read_row-row.result _ _ _
-    (fitting_rows rows c.requires.accepted.0 c.requires.accepted.1) c.loop-i.invariant.2
-    (omega (arith, c.loop-i-test.true, c.requires.counted.1)) (omega (arith, c.loop-i-test.true, c.requires.counted.0))
-    c.read_row-row.ensures c.place.ensures c.place-in-loop-i.ensures c.place-in-loop-i-2.ensures in
+    let found =
+    next_depth (rows_of c.args.table.now) c.requires.counted c.requires.accepted c.loop-i.invariant.2 c.loop-i-test.true
+    c.read_row-row.ensures c.place.ensures c.place-in-loop-i.ensures c.place-in-loop-i-2.ensures c.depth_by-depth.ensures in
     lowest_found 5 _ c.loop-i.i c.args.rows c.loop-i-test.true
     (too_deep_law _ _ ∙ ap over_limits (sym found) ∙ sym c.over_limits.ensures ∙ c.if-over_limits.true) c.loop-i.invariant.1
 

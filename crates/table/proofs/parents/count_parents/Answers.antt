@@ -1,4 +1,4 @@
--- `table::parents::count_parents` meets its contract: what is counted is the children of the rows passed.
+-- `table::parents::count_parents` meets its contract.
 use native.Mathlib.Omega.{arith}
 use mathlib.Core.Path.{sym, subst, ap}
 use Rattle.rules.specs.Rows.{rows_of}

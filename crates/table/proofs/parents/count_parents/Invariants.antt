@@ -1,4 +1,4 @@
--- `table::parents::count_parents` meets its contract: what is counted is the children of the rows passed.
+-- The loop's invariant: what is counted is the children of the rows passed.
 use Prim.Native.Nat.{◌-◌, ◌≤◌}
 use mathlib.Core.Path.{◌≡◌}
 use lib.ListN.{length, take}

@@ -1,4 +1,4 @@
--- `table::parents::judge_parents` meets its contract: what is left to search gives the same answer as the whole.
+-- `table::parents::judge_parents` meets its contract.
 use Prim.Native.Nat.{ℕ, ◌-◌}
 use native.Mathlib.Omega.{arith}
 use mathlib.Core.Path.{◌≡◌, refl, sym, ap, ◌∙◌}

@@ -1,4 +1,4 @@
--- `table::parents::judge_parents` meets its contract: what is left to search gives the same answer as the whole.
+-- The loop's invariant: what is left to search gives the same answer as the whole.
 use Prim.Native.Nat.{ℕ, ◌-◌, ◌≤◌, ◌<◌}
 use mathlib.Core.Path.{◌≡◌}
 use lib.ListN.{get_or}

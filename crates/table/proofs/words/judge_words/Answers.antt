@@ -1,4 +1,4 @@
--- `table::words::judge_words` meets its contract: what is left to search gives the same answer as the whole.
+-- `table::words::judge_words` meets its contract.
 use Prim.Native.Nat.{◌-◌}
 use native.Mathlib.Omega.{arith}
 use mathlib.Core.Path.{◌≡◌, sym, ap, ◌∙◌}

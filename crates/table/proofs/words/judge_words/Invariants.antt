@@ -1,4 +1,4 @@
--- `table::words::judge_words` meets its contract: what is left to search gives the same answer as the whole.
+-- The loop's invariant: what is left to search gives the same answer as the whole.
 use Prim.Native.Nat.{◌-◌, ◌≤◌}
 use mathlib.Core.Path.{◌≡◌}
 use Rattle.rules.specs.Rows.{rows_of, row_at}
