@@ -6,31 +6,13 @@
 // all.
 #![tactic(auto)]
 
-ghost use Rattle.std.specs.Io.{ReadsAtMost};
-ghost use Rattle.std.specs.Prelude.{◌<◌};
+mod input;
 
-use expression::assigned::Assigned;
-use expression::values::Evaluation;
-use rules::{Advice, Answer, Checked, Ended, Judged, Kind, Marks, Memory, VARIABLES};
+use input::Input;
+use rules::{Advice, Answer, Checked, Ended, Marks, Memory, Refusal};
 use std::io;
-use std::io::Read;
 
-// The codes of the cases.
-const JUDGE: u32 = 1;
-
-const RUN: u32 = 2;
-
-const OPERATOR: u32 = 3;
-
-const LEVELS: u32 = 4;
-
-const ROWS: u32 = 5;
-
-const MARKS: u32 = 6;
-
-// What is written for the kind of a row that is not there, and for any that is unknown.
-const UNKNOWN: u32 = 11;
-
+// Stays: text, words and trace lie in arrays of these lengths, since the project uses fixed memory and no heap.
 const MOST_BYTES: usize = 262144;
 
 const MOST_CASES: u32 = 4096;
@@ -43,318 +25,152 @@ const MOST_TRACE_WORDS: usize = 16400;
 const MOST_SHOWN_WORDS: usize = 64;
 
 // An odd factor: every place has a weight of its own in the sum, and no changed word is lost in it.
-const SUM_FACTOR: u64 = 31;
+const SUM_FACTOR: u32 = 31;
 
-const MOST_NUMBER: u64 = rules::WORD_VALUES - 1;
-
-// A number of the input, and where the next one starts.
+// What a case asks.
 #[derive(Clone, Copy)]
-struct Number {
-    value: u32,
-    next: usize,
+enum Case {
+    Table(Question),
+    Operator,
+    Marks,
 }
 
-// The number whose line starts there. One that lacks its form is 0, with nothing after it.
-fn number_at(text: &[u8], start: usize) -> Number {
-    let mut at = start;
-    let mut value: u64 = 0;
-    while at < text.len() {
-        let byte = text[at];
-        at += 1;
-        if MOST_NUMBER < value {
-            return no_number(text);
+// What is asked about a table.
+#[derive(Clone, Copy)]
+enum Question {
+    Judge,
+    Run,
+    Levels,
+    Rows,
+}
+
+// A code that is no case's.
+#[derive(Clone, Copy)]
+struct UnknownCase;
+
+impl TryFrom<u32> for Case {
+    type Error = UnknownCase;
+
+    fn try_from(code: u32) -> Result<Case, UnknownCase> {
+        match code {
+            1 => Ok(Case::Table(Question::Judge)),
+            2 => Ok(Case::Table(Question::Run)),
+            3 => Ok(Case::Operator),
+            4 => Ok(Case::Table(Question::Levels)),
+            5 => Ok(Case::Table(Question::Rows)),
+            6 => Ok(Case::Marks),
+            _ => Err(UnknownCase),
         }
-        if byte == b'\n' {
-            return Number {
-                value: value as u32,
-                next: at,
-            };
-        }
-        if byte < b'0' {
-            return no_number(text);
-        }
-        if b'9' < byte {
-            return no_number(text);
-        }
-        value = value * 10 + digit_of(byte);
     }
-    no_number(text)
-}
-
-fn no_number(text: &[u8]) -> Number {
-    Number {
-        value: 0,
-        next: text.len(),
-    }
-}
-
-// The value of a decimal digit: the low four bits of its byte.
-fn digit_of(byte: u8) -> u64
-    ensures { result < 16 }
-{
-    byte as u64 % 16
-}
-
-// Fills the words with the numbers from there on, and answers where the next one starts.
-fn read_words(text: &[u8], start: usize, words: &mut [u32]) -> usize {
-    let count = words.len();
-    let mut at = start;
-    let mut i: usize = 0;
-    while i < count {
-        let number = number_at(text, at);
-        words[i] = number.value;
-        at = number.next;
-        i += 1;
-    }
-    at
-}
-
-// Writes a number with a space before it.
-fn write_number(rt: &impl Print, value: u32) -> io::Result<()> {
-    print!(rt; " {value}")
 }
 
 // Writes numbers, each with a space before it.
 fn write_numbers(rt: &impl Print, values: &[u32]) -> io::Result<()> {
-    let mut i: usize = 0;
-    while i < values.len() {
-        write_number(rt, values[i])?;
-        i += 1;
+    for value in values {
+        print!(rt; " {value}")?;
     }
     Ok(())
 }
 
-// Starts a case's line.
-fn write_first(rt: &impl Print, value: u32) -> io::Result<()> {
-    print!(rt; "{value}")
-}
-
-// Ends a case's line.
-fn write_end(rt: &impl Print) -> io::Result<()> {
-    println!(rt)
-}
-
-fn write_judged(rt: &impl Print, judged: Judged) -> io::Result<()> {
-    match judged {
-        Judged::Accepted => {
-            write_first(rt, 0)?;
-            write_number(rt, 0)
-        }
-        Judged::Refused { number, row } => {
-            write_first(rt, number)?;
-            write_number(rt, row)
-        }
-    }
-}
-
-// How a call ended: whether it was refused, then a number and a row.
-fn write_ended(rt: &impl Print, refused: u32, number: u32, row: u32) -> io::Result<()> {
-    write_first(rt, refused)?;
-    write_number(rt, number)?;
-    write_number(rt, row)
-}
-
-// The same of a run, and what it was stopped because of.
+// Starts a line with how a run ended: whether it was refused, then a number and a row, and what it was stopped because of.
 fn write_end_of_run(rt: &impl Print, ended: Ended) -> io::Result<()> {
     match ended {
-        Ended::Done => {
-            write_ended(rt, 0, 0, 0)?;
-            write_number(rt, 0)
-        }
-        Ended::Stopped { row, because } => {
-            write_ended(rt, 0, 1, row)?;
-            write_number(rt, because)
-        }
-        Ended::Spent => {
-            write_ended(rt, 0, 2, 0)?;
-            write_number(rt, 0)
-        }
-        Ended::NoRoom(row) => {
-            write_ended(rt, 0, 3, row)?;
-            write_number(rt, 0)
-        }
-        Ended::Refused { number, row } => {
-            write_ended(rt, 1, number, row)?;
-            write_number(rt, 0)
+        Ended::Done => print!(rt; "0 0 0 0"),
+        Ended::Stopped { row, because } => print!(rt; "0 1 {row} {because}"),
+        Ended::Spent => print!(rt; "0 2 0 0"),
+        Ended::NoRoom(row) => print!(rt; "0 3 {row} 0"),
+        Ended::Refused(refusal) => {
+            print!(rt; "1 {} {} 0", u32::from(refusal.fault), refusal.row)
         }
     }
-}
-
-// Whether the check was refused, and by what; else whether it failed, and where; then the marks.
-fn write_advice(rt: &impl Print, advice: Advice) -> io::Result<()> {
-    let checked = advice.checked;
-    match checked {
-        Checked::Pass => write_ended(rt, 0, 0, 0)?,
-        Checked::Fail(row) => write_ended(rt, 0, 1, row)?,
-        Checked::Refused { number, row } => write_ended(rt, 1, number, row)?,
-    }
-    write_number(rt, advice.marks)
 }
 
 // The whole of a short trace; of a long one the sum over all its words.
 fn write_trace(rt: &impl Print, trace: &[u32]) -> io::Result<()> {
     if trace.len() <= MOST_SHOWN_WORDS {
-        return write_numbers(rt, trace);
+        write_numbers(rt, trace)
+    } else {
+        print!(rt; " {}", sum_of(trace))
     }
-    write_number(rt, sum_of(trace))
 }
 
-// A sum over all words, in which a word counts by its place.
+// A sum over all words modulo 2^32, in which a word counts by its place.
 fn sum_of(words: &[u32]) -> u32 {
-    let mut sum: u32 = 0;
-    let mut i: usize = 0;
-    while i < words.len() {
-        sum = next_sum(sum, words[i]);
-        i += 1;
-    }
-    sum
-}
-
-// The sum with one word more, modulo 2^32.
-fn next_sum(sum: u32, word: u32) -> u32 {
-    ((sum as u64 * SUM_FACTOR + word as u64) % rules::WORD_VALUES) as u32
+    words.iter().fold(0u32, |sum, &word| {
+        sum.wrapping_mul(SUM_FACTOR).wrapping_add(word)
+    })
 }
 
 fn write_answer(rt: &impl Print, answer: Answer) -> io::Result<()> {
-    let ended = answer.ended;
-    write_end_of_run(rt, ended)?;
-    write_number(rt, answer.steps)?;
-    write_number(rt, answer.marks)?;
-    let memory = answer.memory;
-    let words = memory.words;
-    write_numbers(rt, &words)?;
-    write_number(rt, answer.records)
+    write_end_of_run(rt, answer.ended)?;
+    print!(rt; " {} {}", answer.steps, answer.marks)?;
+    write_numbers(rt, &answer.memory.words)?;
+    print!(rt; " {}", answer.records)
 }
 
-// A case of a table: word count, words, and what the code asks further.
-fn answer_words(rt: &impl Print, text: &[u8], start: usize, code: u32) -> io::Result<usize> {
-    let number = number_at(text, start);
-    let count = number.value as usize;
+// A case of a table: word count, words, and what is asked further.
+fn answer_table(rt: &impl Print, input: &mut Input<'_>, question: Question) -> io::Result<()> {
+    let count = input.number() as usize;
     if MOST_WORDS < count {
-        return Ok(text.len());
+        input.end();
+        return Ok(());
     }
     let mut words = [0u32; MOST_WORDS];
-    answer_read(rt, text, number.next, code, &mut words[..count])
-}
-
-// Reads the words, and goes on with their case.
-fn answer_read(
-    rt: &impl Print,
-    text: &[u8],
-    start: usize,
-    code: u32,
-    words: &mut [u32],
-) -> io::Result<usize> {
-    let next = read_words(text, start, words);
-    if code == JUDGE {
-        write_judged(rt, table::judge(words))?;
-        write_end(rt)?;
-        return Ok(next);
+    let table = &mut words[..count];
+    input.fill(table);
+    match question {
+        Question::Judge => answer_judge(rt, table),
+        Question::Run => answer_run(rt, input, table),
+        Question::Levels => answer_levels(rt, input, table),
+        Question::Rows => answer_rows(rt, input, table),
     }
-    if code == LEVELS {
-        return answer_levels(rt, text, next, words);
+}
+
+fn answer_judge(rt: &impl Print, table: &[u32]) -> io::Result<()> {
+    match table::judge(table) {
+        Ok(()) => println!(rt; "0 0"),
+        Err(refusal) => println!(rt; "{} {}", u32::from(refusal.fault), refusal.row),
     }
-    if code == ROWS {
-        return answer_rows(rt, text, next, words);
-    }
-    answer_run(rt, text, next, words)
 }
 
-// A case of the level check, after its words: marks.
-fn answer_levels(rt: &impl Print, text: &[u8], start: usize, table: &[u32]) -> io::Result<usize> {
-    let marks = number_at(text, start);
-    write_advice(rt, levels::check(table, marks.value))?;
-    write_end(rt)?;
-    Ok(marks.next)
-}
-
-// The memory words from there on, and where the next number starts.
-#[derive(Clone, Copy)]
-struct Given {
-    memory: Memory,
-    next: usize,
-}
-
-fn memory_at(text: &[u8], start: usize) -> Given {
-    let mut words = [0u32; VARIABLES];
-    let next = read_words(text, start, &mut words);
-    Given {
-        memory: Memory { words },
-        next,
+// A case of the level check, after its words: marks. It is answered by whether the check was refused, and by what; else whether it
+// failed, and where; then the marks.
+fn answer_levels(rt: &impl Print, input: &mut Input<'_>, table: &[u32]) -> io::Result<()> {
+    let Advice { checked, marks } = levels::check(table, input.number());
+    match checked {
+        Checked::Pass => println!(rt; "0 0 0 {marks}"),
+        Checked::Fail(row) => println!(rt; "0 1 {row} {marks}"),
+        Checked::Refused(refusal) => {
+            println!(rt; "1 {} {} {marks}", u32::from(refusal.fault), refusal.row)
+        }
     }
 }
 
 // A case of rows, after its words: memory, marks, row count, rows. It is answered by a line for each row.
-fn answer_rows(rt: &impl Print, text: &[u8], start: usize, table: &[u32]) -> io::Result<usize> {
-    let given = memory_at(text, start);
-    let marks = number_at(text, given.next);
-    let asked = number_at(text, marks.next);
-    let memory = given.memory;
-    let mut at = asked.next;
-    let mut left = asked.value;
-    while 0 < left {
-        let row = number_at(text, at);
-        answer_row(rt, table, row.value, memory, marks.value)?;
-        at = row.next;
-        left -= 1;
+fn answer_rows(rt: &impl Print, input: &mut Input<'_>, table: &[u32]) -> io::Result<()> {
+    let memory = input.memory();
+    let marks = input.number();
+    for _ in 0..input.number() {
+        let row = input.number();
+        write_row(rt, table, row)?;
+        write_value(rt, table, row, memory, marks)?;
+        write_assigned(rt, table, row)?;
+        println!(rt)?;
     }
-    Ok(at)
-}
-
-// All that the functions on rows answer of one row.
-fn answer_row(
-    rt: &impl Print,
-    table: &[u32],
-    row: u32,
-    memory: Memory,
-    marks: Marks,
-) -> io::Result<()> {
-    write_row(rt, table, row)?;
-    write_value(rt, table, row, memory, marks)?;
-    write_assigned(rt, table, row)?;
-    write_end(rt)
+    Ok(())
 }
 
 // Whether the table has the row; then its kind and words.
 fn write_row(rt: &impl Print, table: &[u32], row: u32) -> io::Result<()> {
-    write_first(rt, number_of(rows::has_row(table, row)))?;
+    let there = u32::from(rows::has_row(table, row));
     let here = rows::row_at(table, row);
-    let kind = here.kind;
-    write_number(rt, number_of_kind(kind))?;
-    write_number(rt, here.p)?;
-    write_number(rt, here.q)?;
-    write_number(rt, here.r)
-}
-
-// 1 for true, 0 for false.
-fn number_of(answer: bool) -> u32 {
-    if answer {
-        return 1;
-    }
-    0
-}
-
-// The number of a kind, by the table of kinds.
-fn number_of_kind(kind: Kind) -> u32 {
-    match kind {
-        Kind::Skip => 0,
-        Kind::Assign => 1,
-        Kind::Sequence => 2,
-        Kind::If => 3,
-        Kind::While => 4,
-        Kind::Output => 5,
-        Kind::Constant => 8,
-        Kind::Variable => 9,
-        Kind::Binary => 10,
-        Kind::Unknown => UNKNOWN,
-    }
+    let kind = u32::from(here.kind);
+    print!(rt; "{there} {kind} {} {} {}", here.p, here.q, here.r)
 }
 
 // A refusal in the middle of a line, after a 1.
-fn write_refused(rt: &impl Print, number: u32, row: u32) -> io::Result<()> {
-    write_number(rt, 1)?;
-    write_number(rt, number)?;
-    write_number(rt, row)
+fn write_refusal(rt: &impl Print, refusal: Refusal) -> io::Result<()> {
+    print!(rt; " 1 {} {}", u32::from(refusal.fault), refusal.row)
 }
 
 // Whether the table was refused, and by what; else the value and level of the row.
@@ -365,149 +181,87 @@ fn write_value(
     memory: Memory,
     marks: Marks,
 ) -> io::Result<()> {
-    let evaluation = expression::values::value_at(table, row, memory, marks);
-    match evaluation {
-        Evaluation::Found(found) => {
-            write_number(rt, 0)?;
-            write_number(rt, found.value)?;
-            write_number(rt, found.level)
-        }
-        Evaluation::Refused { number, row: at } => write_refused(rt, number, at),
+    match expression::values::value_at(table, row, memory, marks) {
+        Ok(found) => print!(rt; " 0 {} {}", found.value, found.level),
+        Err(refusal) => write_refusal(rt, refusal),
     }
 }
 
 // Whether the table was refused, and by what; else the variables that the row may assign.
 fn write_assigned(rt: &impl Print, table: &[u32], row: u32) -> io::Result<()> {
-    let assigned = expression::assigned::assigned_at(table, row);
-    match assigned {
-        Assigned::Variables(variables) => {
-            write_number(rt, 0)?;
-            write_number(rt, variables)
-        }
-        Assigned::Refused { number, row: at } => write_refused(rt, number, at),
+    match expression::assigned::assigned_at(table, row) {
+        Ok(variables) => print!(rt; " 0 {variables}"),
+        Err(refusal) => write_refusal(rt, refusal),
     }
 }
 
-// A case of the run, after its words: memory, marks, budget, trace word count, trace words.
-fn answer_run(rt: &impl Print, text: &[u8], start: usize, table: &[u32]) -> io::Result<usize> {
-    let given = memory_at(text, start);
-    let marks = number_at(text, given.next);
-    let budget = number_at(text, marks.next);
-    let lent = number_at(text, budget.next);
-    let count = lent.value as usize;
+// A case of the run, after its words: memory, marks, budget, trace word count, trace words. It is answered by what the run answers and
+// leaves in the trace.
+fn answer_run(rt: &impl Print, input: &mut Input<'_>, table: &[u32]) -> io::Result<()> {
+    let memory = input.memory();
+    let marks = input.number();
+    let budget = input.number();
+    let count = input.number() as usize;
     if MOST_TRACE_WORDS < count {
-        return Ok(text.len());
+        input.end();
+        return Ok(());
     }
-    let mut trace = [0u32; MOST_TRACE_WORDS];
-    let memory = given.memory;
-    run_traced(
-        rt,
-        text,
-        lent.next,
-        table,
-        memory,
-        marks.value,
-        budget.value,
-        &mut trace[..count],
-    )
-}
-
-// Reads the words of the trace, and writes what the run answers and leaves in the trace.
-fn run_traced(
-    rt: &impl Print,
-    text: &[u8],
-    start: usize,
-    table: &[u32],
-    memory: Memory,
-    marks: Marks,
-    budget: u32,
-    trace: &mut [u32],
-) -> io::Result<usize> {
-    let next = read_words(text, start, trace);
-    let answer = monitor::run(table, memory, marks, budget, trace);
-    write_answer(rt, answer)?;
+    let mut words = [0u32; MOST_TRACE_WORDS];
+    let trace = &mut words[..count];
+    input.fill(trace);
+    write_answer(rt, monitor::run(table, memory, marks, budget, trace))?;
     write_trace(rt, trace)?;
-    write_end(rt)?;
-    Ok(next)
+    println!(rt)
 }
 
 // A case of an operator: operator, left, right.
-fn answer_operator(rt: &impl Print, text: &[u8], start: usize) -> io::Result<usize> {
-    let operator = number_at(text, start);
-    let left = number_at(text, operator.next);
-    let right = number_at(text, left.next);
-    let value = leaves::operators::operated(operator.value, left.value, right.value);
-    write_first(rt, value)?;
-    write_end(rt)?;
-    Ok(right.next)
+fn answer_operator(rt: &impl Print, input: &mut Input<'_>) -> io::Result<()> {
+    let operator = input.number();
+    let left = input.number();
+    let right = input.number();
+    println!(rt; "{}", leaves::operators::operated(operator, left, right))
 }
 
-// A case of mark sets: marks, variable, other marks.
-fn answer_marks(rt: &impl Print, text: &[u8], start: usize) -> io::Result<usize> {
-    let marks = number_at(text, start);
-    let variable = number_at(text, marks.next);
-    let others = number_at(text, variable.next);
-    write_marks(rt, marks.value, variable.value, others.value)?;
-    write_end(rt)?;
-    Ok(others.next)
+// A case of mark sets: marks, variable, other marks. It is answered by the variable alone; whether it is in the set; the set with and
+// without it; both sets.
+fn answer_marks(rt: &impl Print, input: &mut Input<'_>) -> io::Result<()> {
+    let marks = input.number();
+    let variable = input.number();
+    let others = input.number();
+    let only = leaves::marks::only_mark(variable);
+    let has = u32::from(leaves::marks::has_mark(marks, variable));
+    let with = leaves::marks::mark_as(marks, variable, true);
+    let without = leaves::marks::mark_as(marks, variable, false);
+    let joined = leaves::marks::joined(marks, others);
+    println!(rt; "{only} {has} {with} {without} {joined}")
 }
 
-// The variable alone; whether it is in the set; the set with and without it; both sets.
-fn write_marks(rt: &impl Print, marks: Marks, variable: u32, others: Marks) -> io::Result<()> {
-    write_first(rt, leaves::marks::only_mark(variable))?;
-    write_number(rt, number_of(leaves::marks::has_mark(marks, variable)))?;
-    write_number(rt, leaves::marks::mark_as(marks, variable, true))?;
-    write_number(rt, leaves::marks::mark_as(marks, variable, false))?;
-    write_number(rt, leaves::marks::joined(marks, others))
-}
-
-// Answers the case that starts there, and says where the next one starts.
-fn answer_one(rt: &impl Print, text: &[u8], start: usize) -> io::Result<usize> {
-    let code = number_at(text, start);
-    let asked = code.value;
-    if asked == OPERATOR {
-        return answer_operator(rt, text, code.next);
+// Answers the case that comes next.
+fn answer_one(rt: &impl Print, input: &mut Input<'_>) -> io::Result<()> {
+    match Case::try_from(input.number()) {
+        Ok(Case::Table(question)) => answer_table(rt, input, question),
+        Ok(Case::Operator) => answer_operator(rt, input),
+        Ok(Case::Marks) => answer_marks(rt, input),
+        Err(UnknownCase) => {
+            input.end();
+            Ok(())
+        }
     }
-    if asked == MARKS {
-        return answer_marks(rt, text, code.next);
-    }
-    if asked == JUDGE || asked == RUN || asked == LEVELS || asked == ROWS {
-        return answer_words(rt, text, code.next, asked);
-    }
-    Ok(text.len())
 }
 
 // Answers the cases up to the end of the input, or to one that lacks its form.
-fn answer_all(rt: &impl Print, text: &[u8]) -> io::Result<()> {
-    let mut at: usize = 0;
-    let mut cases: u32 = 0;
-    while cases < MOST_CASES {
-        if text.len() <= at {
-            return Ok(());
+fn answer_all(rt: &impl Print, input: &mut Input<'_>) -> io::Result<()> {
+    for _ in 0..MOST_CASES {
+        if input.is_at_end() {
+            break;
         }
-        at = answer_one(rt, text, at)?;
-        cases += 1;
+        answer_one(rt, input)?;
     }
     Ok(())
 }
 
-// Reads until the buffer is full or the input ends: so many bytes stand at the buffer's front.
-fn read_full(from: &mut impl Read, buf: &mut [u8]) -> io::Result<usize>
-    ensures { ReadsAtMost result buf.new }
-{
-    let mut done = 0;
-    while done < buf.len() {
-        let count = from.read(&mut buf[done..])?;
-        if count == 0 {
-            break;
-        }
-        done += count;
-    }
-    Ok(done)
-}
-
 fn main(rt: HostRuntime) -> io::Result<()> {
     let mut text = [0u8; MOST_BYTES];
-    let count = read_full(&mut rt.stdin(), &mut text)?;
-    answer_all(&rt, &text[..count])
+    let count = streams::read_all(&mut rt.stdin(), &mut text)?;
+    answer_all(&rt, &mut Input::new(&text[..count]))
 }

@@ -1,16 +1,20 @@
 -- No second answer meets a contract. In each proof e is what the first answer meets, and f what the second meets.
+use mathlib.Core.Bool.{Bool, true, false}
 use mathlib.Core.Path.{◌≡◌, refl, sym, ◌∙◌}
-use Rattle.rules.specs.declared.Judged.{Judged}
+use Rattle.std.specs.Prelude.{IsTrue, ◌↔◌, Result}
+use Rattle.rules.specs.declared.Refusal.{Refusal}
 use Rattle.rules.specs.declared.Answer.{Answer}
 use Rattle.rules.specs.declared.Advice.{Advice}
-use Rattle.rules.specs.Answers.{Said, Advised, Whole, said_of_judge, advised_of, told_of, telling}
-use Rattle.rules.proofs.AnswerLaws.{judged_unique, checked_unique, ended_unique, told_said, told_because, told_steps, told_records, told_memory, told_marks}
+use Rattle.rules.specs.Answers.{Said, Advised, Whole, judged_of, said_of_judge, advised_of, told_of, telling}
+use Rattle.rules.proofs.AnswerLaws.{judge_unique, checked_unique, ended_unique, told_said, told_because, told_steps, told_records, told_memory, told_marks}
 use Rattle.expression.proofs.SaidLaws.{evaluation_unique, assigned_unique}
+use Rattle.step.proofs.OpenLaws.{machine_unique}
 use Rattle.numbers.proofs.FieldLaws.{field_unique}
 use Rattle.job.proofs.JobLaws.{reading_unique}
 use Rattle.report.proofs.ReportLaws.{wrote_unique}
 use Rattle.spans.proofs.WordLaws.{begun_once, cut_once}
 use Rattle.language.proofs.OneAnswer.{one_answer}
+use Rattle.language.proofs.SaidLaws.{said_once}
 use Rattle.embed.proofs.CallLaws.{read_once}
 use Rattle.decided.specs.NoSecondAnswer.{NoSecondAnswer}
 
@@ -18,10 +22,18 @@ use Rattle.decided.specs.NoSecondAnswer.{NoSecondAnswer}
 same : {A : Type 0} {x y z : A} → x ≡ z → y ≡ z → x ≡ y
 same e f = e ∙ sym f
 
+-- tests of one fact
+tested_once : {P : Type 0} (a b : Bool) → (IsTrue a ↔ P) → (IsTrue b ↔ P) → a ≡ b
+tested_once true true e f = refl
+tested_once true false e f = sym (f.1 (e.0 refl))
+tested_once false true e f = e.1 (f.0 refl)
+tested_once false false e f = refl
+
 -- ---- answers that are equated through what they say
 
-judged_once : {a b : Judged} {said : Said} → said_of_judge a ≡ said → said_of_judge b ≡ said → a ≡ b
-judged_once {a} {b} e f = judged_unique a b (same e f)
+judged_once :
+    {a b : Result (Unit {0}) Refusal} {said : Said} → said_of_judge (judged_of a) ≡ said → said_of_judge (judged_of b) ≡ said → a ≡ b
+judged_once {a} {b} e f = judge_unique a b (same e f)
 
 advised_once : {a b : Advice} {advised : Advised} → advised_of a ≡ advised → advised_of b ≡ advised → a ≡ b
 advised_once {a} {b} e f =
@@ -45,6 +57,8 @@ no_second_answer = record {
   row_at = λ _ _ _ _ _ _ e f. (same e f, refl);
   read_row = λ _ _ _ _ _ _ e f. (same e f, refl);
   judge = λ _ _ _ _ _ _ e f. (judged_once e f, refl);
+  judged_table_new = λ _ _ _ _ _ _ e f. (same e f, refl);
+  judged_table_row = λ _ _ _ _ _ _ e f. (same e.0 f.0, refl);
   only_mark = λ _ _ _ _ _ _ e f. (same e f, refl);
   has_mark = λ _ _ _ _ _ _ e f. (same e f, refl);
   mark_as = λ _ _ _ _ _ _ e f. (same e f, refl);
@@ -57,6 +71,12 @@ no_second_answer = record {
   evaluate = λ _ _ _ _ _ _ e f. (same e f, refl);
   assigned_at = λ _ _ _ _ _ _ e f. (assigned_unique _ _ (same e f), refl);
   may_assign = λ _ _ _ _ _ _ e f. (same e f, refl);
+  machine_new = λ _ _ _ _ _ _ e f. (
+    machine_unique _ _ (same e.words f.words) (same e.marks f.marks) (same e.first f.first) (same e.one f.one) (same e.sets f.sets)
+        (same e.no_sets f.no_sets) (same e.no_records f.no_records),
+    refl,
+  );
+  machine_is_done = λ _ _ _ _ _ _ e f. (tested_once _ _ e f, refl);
   run = λ _ _ _ _ _ _ e f. (told_once _ e.told f.told, λ i. (tt, (tt, (tt, (tt, (same e.after_trace f.after_trace i, tt))))));
   check = λ _ _ _ _ _ _ e f. (advised_once e f, refl);
   number_at = λ _ _ _ _ _ _ e f. (field_unique _ _ _ e.1 f.1 (same e.0 f.0), refl);
@@ -68,7 +88,7 @@ no_second_answer = record {
   word_at = λ _ _ _ _ _ _ e f. (cut_once e f, refl);
   is_joined = λ _ _ _ _ _ _ e f. (same e f, refl);
   is_key = λ _ _ _ _ _ _ e f. (same e f, refl);
-  read_text = λ _ _ _ _ _ _ e f. let r = one_answer _ _ _ _ _ e f in (λ i. (r i).said, λ i. (tt, ((r i).table, tt)));
+  read_text = λ _ _ _ _ _ _ e f. let r = one_answer _ _ _ _ _ e f in (said_once _ _ _ (λ i. (r i).said), λ i. (tt, ((r i).table, tt)));
   buzorinde_judge = λ _ _ _ _ _ _ e f. let c = same (sym e) (sym f) in (λ i. (c i).status, λ i. (tt, ((c i).answer, tt)));
   buzorinde_check = λ _ _ _ _ _ _ e f. let c = same (sym e) (sym f) in (λ i. (c i).status, λ i. (tt, (tt, ((c i).answer, tt))));
   buzorinde_run = λ _ _ _ _ _ _ e f. let c = same (sym e) (sym f) in (λ i. (c i).status, λ i. (tt, ((c i).memory, (tt, (tt, ((c i).trace, ((c i).answer, tt)))))));

@@ -6,6 +6,7 @@ use Rattle.rows.specs.contracts as rows
 use Rattle.table.specs.contracts as table
 use Rattle.leaves.specs.contracts as leaves
 use Rattle.expression.specs.contracts as expression
+use Rattle.step.specs.contracts as step
 use Rattle.monitor.specs.contracts as monitor
 use Rattle.levels.specs.contracts as levels
 use Rattle.numbers.specs.contracts as numbers
@@ -19,6 +20,8 @@ use Rattle.rows.proofs.has_row
 use Rattle.rows.proofs.row_at
 use Rattle.rows.proofs.read_row
 use Rattle.table.proofs.judge
+use Rattle.table.proofs.judged.JudgedTable.new as judged_table_new
+use Rattle.table.proofs.judged.JudgedTable.row as judged_table_row
 use Rattle.leaves.proofs.marks.only_mark
 use Rattle.leaves.proofs.marks.has_mark
 use Rattle.leaves.proofs.marks.mark_as
@@ -31,6 +34,8 @@ use Rattle.expression.proofs.values.value_at
 use Rattle.expression.proofs.values.evaluate
 use Rattle.expression.proofs.assigned.assigned_at
 use Rattle.expression.proofs.assigned.may_assign
+use Rattle.step.proofs.Machine.new as machine_new
+use Rattle.step.proofs.Machine.is_done as machine_is_done
 use Rattle.monitor.proofs.run
 use Rattle.levels.proofs.check
 use Rattle.numbers.proofs.number_at
@@ -56,6 +61,8 @@ pub record NoSecondAnswer : Type 0 where
   pub read_row : Decided rows.read_row.signature read_row.Reads.Learnt
   -- `table`
   pub judge : Decided table.judge.signature judge.Reads.Learnt
+  pub judged_table_new : Decided table.judged.JudgedTable.new.signature judged_table_new.Reads.Learnt
+  pub judged_table_row : Decided table.judged.JudgedTable.row.signature judged_table_row.Reads.Learnt
   -- `leaves`
   pub only_mark : Decided leaves.marks.only_mark.signature only_mark.Reads.Learnt
   pub has_mark : Decided leaves.marks.has_mark.signature has_mark.Reads.Learnt
@@ -70,6 +77,9 @@ pub record NoSecondAnswer : Type 0 where
   pub evaluate : Decided expression.values.evaluate.signature evaluate.Reads.Learnt
   pub assigned_at : Decided expression.assigned.assigned_at.signature assigned_at.Reads.Learnt
   pub may_assign : Decided expression.assigned.may_assign.signature may_assign.Reads.Learnt
+  -- `step`
+  pub machine_new : Decided step.Machine.new.signature machine_new.Reads.Learnt
+  pub machine_is_done : Decided step.Machine.is_done.signature machine_is_done.Reads.Learnt
   -- `monitor`
   pub run : Decided monitor.run.signature run.Reads.Learnt
   -- `levels`

@@ -11,15 +11,17 @@ use Rattle.rules.specs.Running.{Record}
 use Rattle.rules.specs.Answers.{Whole, Inputs, inputs, answer, told_of, telling, trace_words_of, trace_after, RunAnswers}
 use Rattle.rules.proofs.AnswerLaws.{trace_words_none, trace_words_cons, trace_after_law, told_said, told_because, told_steps, told_records, told_memory, told_marks}
 use Rattle.job.specs.Limits.{most_room}
-use Rattle.job.specs.declared.Read.{Read}
-use Rattle.job.specs.declared.Reading.{Reading}
+use Rattle.std.specs.Prelude.{Ok, Err}
+use Rattle.job.specs.declared.Job.{Job}
+use Rattle.job.specs.declared.Refusal.{Refusal}
+use Rattle.job.specs.Faults.{fault_number}
 use Rattle.job.specs.Jobs.{Told, told, untold, read_job}
-use Rattle.job.specs.Read.{filled, ReadingSaid, said_of_reading, reading}
-use Rattle.job.proofs.JobLaws.{read_unique}
+use Rattle.job.specs.Read.{filled, job, refused, ReadingSaid, said_of_reading, reading}
 use Rattle.report.specs.Reports.{refusal_text, report}
 use Rattle.report.specs.Written.{placed_in, records_of, whole_of, report_written}
 use Rattle.report.proofs.ReportLaws.{report_placed}
 use Rattle.job.proofs.ToldLaws.{told_fits}
+use Rattle.desk.specs.Read.{inputs_with}
 use Rattle.desk.specs.Desk.{most_report, job_answer, told_report, job_report}
 
 -- ---- the records of a trace
@@ -94,53 +96,53 @@ room_same room h = room_lent room h ∙ sym (length-replicate {A = ℕ} (record_
 -- ---- what the reader hands on
 
 -- the parts of a job that was read: its room and its table are there, and its run's report is the text's
-pub record Handed (text : List ℕ) (r : Reading) (budget room marks rows : ℕ) : Type 0 where
-  pub within : room ≤ most_room
-  pub words : row_words * rows ≤ length r.table
-  pub reported : report (answer (inputs (take (row_words * rows) r.table) r.memory.words marks budget (replicate (record_words * room) 0))) ≡ job_report text
+pub record Handed (text : List ℕ) (r : Job) : Type 0 where
+  pub within : r.room ≤ most_room
+  pub words : row_words * r.rows ≤ length r.table
+  pub reported : report (answer (inputs_with r (replicate (record_words * r.room) 0))) ≡ job_report text
 
-module _ (text : List ℕ) (r : Reading) (read : said_of_reading r ≡ reading (read_job text)) where
-  pub handed_on : (budget room marks rows : ℕ) → r.read ≡ Read.Job budget room marks rows → Handed text r budget room marks rows
-  unfolding reading filled job_report told_report job_answer
-  handed_on budget room marks rows h = by (read_job text) refl read
-    where
-      by : (t : Told) → t ≡ read_job text → said_of_reading r ≡ reading t → Handed text r budget room marks rows
-      by (untold refusal at) e same =
-          let i : r.read ≡ Read.Refused refusal at = read_unique r.read _ (ap (λ (x : ReadingSaid). x.said) same) in
-          let z : ◌≡◌ {A = ℕ} 0 1 = cc in
-          absurd (omega arith)
-      by (told job) e same =
-          let fits = told_fits text job e in
-          let i : r.read ≡ Read.Job job.budget job.room job.marks (length job.table / row_words) = read_unique r.read _ (ap (λ (x : ReadingSaid). x.said) same) in
-          let b : budget ≡ job.budget = cc in
-          let o : room ≡ job.room = cc in
-          let m : marks ≡ job.marks = cc in
-          let n : rows ≡ length job.table / row_words = cc in
-          let count : length job.table ≡ row_words * rows = fits.whole ∙ ap (λ (k : ℕ). row_words * k) (sym n) in
-          let table : r.table ≡ job.table ++ replicate (table_words - length job.table) 0 = ap (λ (x : ReadingSaid). x.table) same in
-          let part : take (row_words * rows) r.table ≡ job.table =
-          ap (take (row_words * rows)) table ∙ take_at job.table (replicate (table_words - length job.table) 0) (row_words * rows) count in
-          let memory : r.memory.words ≡ filled width job.inputs = ap (λ (x : ReadingSaid). x.memory) same in
-          record {
-            within = omega (arith, fits.room);
-            words = omega (arith, ap length table, length-append job.table (replicate (table_words - length job.table) 0));
-            reported = ap₂ (λ (ws ms : List ℕ). report (answer (inputs ws ms marks budget (replicate (record_words * room) 0)))) part memory
-                ∙ ap₂ (λ (k l : ℕ). report (answer (inputs job.table (filled width job.inputs) k l (replicate (record_words * room) 0)))) m b
-                ∙ ap (λ (k : ℕ). report (answer (inputs job.table (filled width job.inputs) job.marks job.budget (replicate (record_words * k) 0)))) o
-                ∙ ap told_report e;
-          }
+pub handed_on : (text : List ℕ) (r : Job) → said_of_reading (Ok r) ≡ reading (read_job text) → Handed text r
+unfolding reading filled job_report told_report job_answer
+handed_on text r read = by (read_job text) refl read
+  where
+    by : (t : Told) → t ≡ read_job text → said_of_reading (Ok r) ≡ reading t → Handed text r
+    by (untold refusal at) e same =
+        let i : job r.budget r.room r.marks r.rows ≡ refused refusal at = ap (λ (x : ReadingSaid). x.said) same in
+        let z : ◌≡◌ {A = ℕ} 0 1 = cc in
+        absurd (omega arith)
+    by (told j) e same =
+        let fits = told_fits text j e in
+        let i : job r.budget r.room r.marks r.rows ≡ job j.budget j.room j.marks (length j.table / row_words) = ap (λ (x : ReadingSaid). x.said) same in
+        let b : r.budget ≡ j.budget = cc in
+        let o : r.room ≡ j.room = cc in
+        let m : r.marks ≡ j.marks = cc in
+        let n : r.rows ≡ length j.table / row_words = cc in
+        let count : length j.table ≡ row_words * r.rows = fits.whole ∙ ap (λ (k : ℕ). row_words * k) (sym n) in
+        let table : r.table ≡ j.table ++ replicate (table_words - length j.table) 0 = ap (λ (x : ReadingSaid). x.table) same in
+        let part : take (row_words * r.rows) r.table ≡ j.table =
+        ap (take (row_words * r.rows)) table ∙ take_at j.table (replicate (table_words - length j.table) 0) (row_words * r.rows) count in
+        let memory : r.memory.words ≡ filled width j.inputs = ap (λ (x : ReadingSaid). x.memory) same in
+        record {
+          within = omega (arith, fits.room);
+          words = omega (arith, ap length table, length-append j.table (replicate (table_words - length j.table) 0));
+          reported = ap₂ (λ (ws ms : List ℕ). report (answer (inputs ws ms r.marks r.budget (replicate (record_words * r.room) 0)))) part memory
+              ∙ ap₂ (λ (k l : ℕ). report (answer (inputs j.table (filled width j.inputs) k l (replicate (record_words * r.room) 0)))) m b
+              ∙ ap (λ (k : ℕ). report (answer (inputs j.table (filled width j.inputs) j.marks j.budget (replicate (record_words * k) 0)))) o
+              ∙ ap told_report e;
+        }
 
-  pub refused_report_lem : (number line : ℕ) → r.read ≡ Read.Refused number line → refusal_text number line ≡ job_report text
-  unfolding reading job_report told_report
-  refused_report_lem number line h = by (read_job text) refl read
-    where
-      by : (t : Told) → t ≡ read_job text → said_of_reading r ≡ reading t → refusal_text number line ≡ job_report text
-      by (told job) e same =
-          let i : r.read ≡ Read.Job job.budget job.room job.marks (length job.table / row_words) = read_unique r.read _ (ap (λ (x : ReadingSaid). x.said) same) in
-          let z : ◌≡◌ {A = ℕ} 0 1 = cc in
-          absurd (omega arith)
-      by (untold refusal at) e same =
-          let i : r.read ≡ Read.Refused refusal at = read_unique r.read _ (ap (λ (x : ReadingSaid). x.said) same) in
-          let n : number ≡ refusal = cc in
-          let l : line ≡ at = cc in
-          ap₂ refusal_text n l ∙ ap told_report e
+pub refused_report_lem : (text : List ℕ) (refusal : Refusal) → said_of_reading (Err refusal) ≡ reading (read_job text)
+    → refusal_text (fault_number refusal.fault) refusal.line ≡ job_report text
+unfolding reading job_report told_report
+refused_report_lem text refusal read = by (read_job text) refl read
+  where
+    by : (t : Told) → t ≡ read_job text → said_of_reading (Err refusal) ≡ reading t → refusal_text (fault_number refusal.fault) refusal.line ≡ job_report text
+    by (told j) e same =
+        let i : refused (fault_number refusal.fault) refusal.line ≡ job j.budget j.room j.marks (length j.table / row_words) = ap (λ (x : ReadingSaid). x.said) same in
+        let z : ◌≡◌ {A = ℕ} 0 1 = cc in
+        absurd (omega arith)
+    by (untold number at) e same =
+        let i : refused (fault_number refusal.fault) refusal.line ≡ refused number at = ap (λ (x : ReadingSaid). x.said) same in
+        let n : fault_number refusal.fault ≡ number = cc in
+        let l : refusal.line ≡ at = cc in
+        ap₂ refusal_text n l ∙ ap told_report e

@@ -1,3 +1,4 @@
 pub mod Desk
+pub mod Read
 pub mod Cases
 pub mod Claims

@@ -2,7 +2,7 @@
 use Rattle.std.specs.Prelude.{ℕ, ◌%◌, ◌^◌, ◌≤◌, ◌<◌, Bool, true, false, List, [], ◌∷◌, ◌++◌, ltb, length, take, drop}
 use Rattle.rules.specs.Limits.{width, word_bits}
 use Rattle.rules.specs.Answers.{Said, accepted, refused, verdict, pass, fail, Whole, Inputs, inputs, Advised, judgement, advice, answer, trace_after}
-use Rattle.language.specs.declared.Said as language
+use Rattle.language.specs.Said as language
 use Rattle.language.specs.Readings.{handed, Reading, Reads}
 use Rattle.embed.specs.declared.Numbers.{Numbers}
 

@@ -3,17 +3,19 @@
 // them.
 #![tactic(auto)]
 
-ghost use Rattle.std.specs.Prelude.{◌≡◌, [], ◌∷◌, ◌++◌, ◌%◌, ◌^◌, ◌≤◌, length};
+ghost use Rattle.std.specs.Prelude.{◌≡◌, ◌%◌, ◌^◌, Err};
 ghost use Rattle.rules.specs.Limits.{word_bits};
-ghost use Rattle.rules.specs.Answers.{inputs, said_of_judge, said_of_run, because_of, said_of_check};
-ghost use Rattle.embed.specs.Calls.{numbers_of, said_words, laid, judge_length, check_length, run_length, read_length, judge_call, check_call, run_call, ReadCalls};
+ghost use Rattle.rules.specs.Answers.{inputs, judged_of, said_of_judge, said_of_run, because_of, said_of_check};
+ghost use Rattle.language.specs.Answers.{flaw_number, flaw_row, said_of};
+ghost use Rattle.embed.specs.Calls.{numbers_of, read_words, judge_call, check_call, run_call, ReadCalls};
 
-use leaves::copy::copy_words;
+use language::{Flaw, Recipe, Unread};
 use reader::read_text;
-use rules::{Checked, Ended, Judged, Marks, Memory, VARIABLES, WORD_VALUES};
+use rules::{Checked, Ended, Marks, Memory, Refusal, VARIABLES, WORD_VALUES};
 use spans::handed_back;
 
 // What a call returns: that it has answered, or which buffer was too short.
+// Stays: numbers, since the C interface returns them (`embed/buzorinde.h`), and each is returned at once.
 const ANSWERED: u32 = 0;
 
 const ANSWER_TOO_SHORT: u32 = 1;
@@ -30,55 +32,89 @@ const RUN_WORDS: usize = 7;
 const READ_WORDS: usize = 7;
 
 // The first three words of every answer: the refusal's number or 0; the verdict; the place, or the refusal's row.
-#[derive(Drop)]
+#[derive(Clone, Copy)]
 pub struct Numbers {
     pub refusal: u32,
     pub verdict: u32,
     pub row: u32,
 }
 
-// The numbers of a refusal.
-fn refused_numbers(number: u32, row: u32) -> Numbers
-    ensures { result ≡ record { refusal = number; verdict = 0; row = row } }
-{
-    Numbers {
-        refusal: number,
-        verdict: 0,
-        row,
+impl Numbers {
+    // The numbers of a verdict and its place.
+    fn verdict(verdict: u32, row: u32) -> Numbers
+        ensures { result ≡ record { refusal = 0; verdict = verdict; row = row } }
+    {
+        Numbers {
+            refusal: 0,
+            verdict,
+            row,
+        }
     }
 }
 
-// The numbers of a verdict and its place.
-fn verdict_numbers(verdict: u32, row: u32) -> Numbers
-    ensures { result ≡ record { refusal = 0; verdict = verdict; row = row } }
-{
-    Numbers {
-        refusal: 0,
-        verdict,
-        row,
+impl From<Refusal> for Numbers {
+    ghost from_gives = { λ refusal numbers. numbers ≡ numbers_of (said_of_judge (judged_of (Err refusal))) };
+
+    fn from(refusal: Refusal) -> Numbers {
+        Numbers {
+            refusal: u32::from(refusal.fault),
+            verdict: 0,
+            row: refusal.row,
+        }
     }
 }
 
-// The numbers of the judge's answer.
-fn judge_numbers(judged: Judged) -> Numbers
-    ensures { result ≡ numbers_of (said_of_judge judged) }
-{
-    match judged {
-        Judged::Accepted => verdict_numbers(0, 0),
-        Judged::Refused { number, row } => refused_numbers(number, row),
+impl From<Result<(), Refusal>> for Numbers {
+    ghost from_gives = { λ judged numbers. numbers ≡ numbers_of (said_of_judge (judged_of judged)) };
+
+    fn from(judged: Result<(), Refusal>) -> Numbers {
+        match judged {
+            Ok(()) => Numbers::verdict(0, 0),
+            Err(refusal) => refusal.into(),
+        }
     }
 }
 
-// The numbers of a run's end.
-fn run_numbers(ended: Ended) -> Numbers
-    ensures { result ≡ numbers_of (said_of_run ended) }
-{
-    match ended {
-        Ended::Done => verdict_numbers(0, 0),
-        Ended::Stopped { row, .. } => verdict_numbers(1, row),
-        Ended::Spent => verdict_numbers(2, 0),
-        Ended::NoRoom(row) => verdict_numbers(3, row),
-        Ended::Refused { number, row } => refused_numbers(number, row),
+impl From<Ended> for Numbers {
+    ghost from_gives = { λ ended numbers. numbers ≡ numbers_of (said_of_run ended) };
+
+    fn from(ended: Ended) -> Numbers {
+        match ended {
+            Ended::Done => Numbers::verdict(0, 0),
+            Ended::Stopped { row, .. } => Numbers::verdict(1, row),
+            Ended::Spent => Numbers::verdict(2, 0),
+            Ended::NoRoom(row) => Numbers::verdict(3, row),
+            Ended::Refused(refusal) => refusal.into(),
+        }
+    }
+}
+
+// A check that fails has verdict 1.
+impl From<Checked> for Numbers {
+    ghost from_gives = { λ checked numbers. numbers ≡ numbers_of (said_of_check checked) };
+
+    fn from(checked: Checked) -> Numbers {
+        match checked {
+            Checked::Pass => Numbers::verdict(0, 0),
+            Checked::Fail(row) => Numbers::verdict(1, row),
+            Checked::Refused(refusal) => refusal.into(),
+        }
+    }
+}
+
+// Only a table's own refusal has a row.
+impl From<Flaw> for Numbers {
+    ghost from_gives = { λ flaw numbers. numbers ≡ record { refusal = flaw_number flaw; verdict = 0; row = flaw_row flaw } };
+
+    fn from(flaw: Flaw) -> Numbers {
+        match flaw {
+            Flaw::Refused(refusal) => refusal.into(),
+            _ => Numbers {
+                refusal: u32::from(flaw),
+                verdict: 0,
+                row: 0,
+            },
+        }
     }
 }
 
@@ -92,72 +128,33 @@ fn because_of(ended: Ended) -> Marks
     }
 }
 
-// The numbers of what the level check says: a check that fails has verdict 1.
-fn check_numbers(checked: Checked) -> Numbers
-    ensures { result ≡ numbers_of (said_of_check checked) }
-{
-    match checked {
-        Checked::Pass => verdict_numbers(0, 0),
-        Checked::Fail(row) => verdict_numbers(1, row),
-        Checked::Refused { number, row } => refused_numbers(number, row),
-    }
-}
-
-// Lays the numbers over the first words of the answer.
-fn put_numbers(answer: &mut [u32], numbers: Numbers)
-    requires { judge_length ≤ length answer.old }
-    ensures { answer.new ≡ laid (said_words numbers) answer.old }
-{
-    answer[0] = numbers.refusal;
-    answer[1] = numbers.verdict;
-    answer[2] = numbers.row;
-}
-
-// Lays a check's numbers and marks over the first words of the answer.
-fn put_check(answer: &mut [u32], numbers: Numbers, marks: Marks)
-    requires { check_length ≤ length answer.old }
-    ensures { answer.new ≡ laid (said_words numbers ++ marks ∷ []) answer.old }
-{
-    put_numbers(answer, numbers);
-    answer[3] = marks;
-}
-
-// Lays a run's numbers, steps, records, marks and what it was stopped because of over the first words of the answer.
-fn put_run(
-    answer: &mut [u32],
-    numbers: Numbers,
-    steps: u32,
-    records: u32,
-    marks: Marks,
-    because: Marks,
-)
-    requires { run_length ≤ length answer.old }
-    ensures { answer.new ≡ laid (said_words numbers ++ steps ∷ records ∷ marks ∷ because ∷ []) answer.old }
-{
-    put_numbers(answer, numbers);
-    answer[3] = steps;
-    answer[4] = records;
-    answer[5] = marks;
-    answer[6] = because;
-}
-
 // A number of bytes as a word.
+// Stays: std has no conversion that takes a number modulo 2^32, as `read_words` has it.
 fn word_of(bytes: usize) -> u32
     ensures { result ≡ bytes % 2 ^ word_bits }
 {
     (bytes as u64 % WORD_VALUES) as u32
 }
 
-// Lays a reading's numbers, rows, part and marks over the first words of the answer.
-fn put_read(answer: &mut [u32], numbers: Numbers, rows: u32, start: u32, size: u32, marks: Marks)
-    requires { read_length ≤ length answer.old }
-    ensures { answer.new ≡ laid (said_words numbers ++ rows ∷ start ∷ size ∷ marks ∷ []) answer.old }
+// The words of what a text reads as.
+fn reading_words(text: &[u8], read: Result<Recipe, Unread>) -> [u32; READ_WORDS]
+    ensures { result ≡ read_words text.now (said_of text.now read) }
 {
-    put_numbers(answer, numbers);
-    answer[3] = rows;
-    answer[4] = start;
-    answer[5] = size;
-    answer[6] = marks;
+    match read {
+        Ok(recipe) => [0, 0, 0, recipe.rows, word_of(text.len()), 0, recipe.marks],
+        Err(unread) => {
+            let said = Numbers::from(unread.flaw);
+            [
+                said.refusal,
+                said.verdict,
+                said.row,
+                0,
+                word_of(unread.part.start),
+                word_of(handed_back(text, unread.part).len()),
+                0,
+            ]
+        }
+    }
 }
 
 // The judge. The answer's three words are the refusal's number or 0, 0, and the refusal's row.
@@ -165,11 +162,11 @@ pub fn buzorinde_judge(table: &[u32], answer: &mut [u32]) -> u32
     ensures { judge_call table.now answer.old
         ≡ record { status = result; answer = answer.new } }
 {
-    if answer.len() < JUDGE_WORDS {
+    let Some(first) = answer.first_chunk_mut::<JUDGE_WORDS>() else {
         return ANSWER_TOO_SHORT;
-    }
-    let judged = table::judge(table);
-    put_numbers(answer, judge_numbers(judged));
+    };
+    let said = Numbers::from(table::judge(table));
+    *first = [said.refusal, said.verdict, said.row];
     ANSWERED
 }
 
@@ -179,12 +176,12 @@ pub fn buzorinde_check(table: &[u32], marks: Marks, answer: &mut [u32]) -> u32
     ensures { check_call table.now marks answer.old
         ≡ record { status = result; answer = answer.new } }
 {
-    if answer.len() < CHECK_WORDS {
+    let Some(first) = answer.first_chunk_mut::<CHECK_WORDS>() else {
         return ANSWER_TOO_SHORT;
-    }
+    };
     let advice = levels::check(table, marks);
-    let checked = advice.checked;
-    put_check(answer, check_numbers(checked), advice.marks);
+    let said = Numbers::from(advice.checked);
+    *first = [said.refusal, said.verdict, said.row, advice.marks];
     ANSWERED
 }
 
@@ -202,26 +199,26 @@ pub fn buzorinde_run(
     ensures { run_call (inputs table.now memory.old marks budget trace.old) answer.old
         ≡ record { status = result; memory = memory.new; trace = trace.new; answer = answer.new } }
 {
-    if answer.len() < RUN_WORDS {
+    let Some(first) = answer.first_chunk_mut::<RUN_WORDS>() else {
         return ANSWER_TOO_SHORT;
-    }
-    if memory.len() < VARIABLES {
+    };
+    let Some(words) = memory.first_chunk_mut::<VARIABLES>() else {
         return MEMORY_TOO_SHORT;
-    }
-    let mut given = [0u32; VARIABLES];
-    copy_words(memory, VARIABLES, &mut given);
+    };
+    let given = *words;
     let reached = monitor::run(table, Memory { words: given }, marks, budget, trace);
-    let words = reached.memory.words;
-    copy_words(&words, VARIABLES, memory);
-    let ended = reached.ended;
-    put_run(
-        answer,
-        run_numbers(ended),
+    let left = reached.memory.words;
+    *words = left;
+    let said = Numbers::from(reached.ended);
+    *first = [
+        said.refusal,
+        said.verdict,
+        said.row,
         reached.steps,
         reached.records,
         reached.marks,
-        because_of(ended),
-    );
+        because_of(reached.ended),
+    ];
     ANSWERED
 }
 
@@ -231,19 +228,10 @@ pub fn buzorinde_read(text: &[u8], table: &mut [u32], answer: &mut [u32]) -> u32
     ensures { ReadCalls text.now table.old answer.old
         (record { status = result; table = table.new; answer = answer.new }) }
 {
-    if answer.len() < READ_WORDS {
+    let Some(first) = answer.first_chunk_mut::<READ_WORDS>() else {
         return ANSWER_TOO_SHORT;
-    }
-    let said = read_text(text, table);
-    let part = said.part;
-    let size = handed_back(text, part).len();
-    put_read(
-        answer,
-        refused_numbers(said.refusal, said.at),
-        said.rows,
-        word_of(part.start),
-        word_of(size),
-        said.marks,
-    );
+    };
+    let read = read_text(text, table);
+    *first = reading_words(text, read);
     ANSWERED
 }

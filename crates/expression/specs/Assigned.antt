@@ -1,11 +1,12 @@
 -- What the public call answers of a statement's assignments.
-use Rattle.std.specs.Prelude.{ℕ, List}
-use Rattle.rules.specs.declared.Judged.{Judged}
+use Rattle.std.specs.Prelude.{ℕ, List, Result, Ok, Err}
+use Rattle.rules.specs.declared.Refusal.{Refusal}
+use Rattle.rules.specs.Judged.{Judged}
 use Rattle.rules.specs.Rows.{rows_of}
 use Rattle.rules.specs.Trees.{stmt_at}
 use Rattle.rules.specs.Values.{may_assign}
 use Rattle.rules.specs.Judging.{judge}
-use Rattle.expression.specs.declared.assigned.Assigned.{Assigned}
+use Rattle.rules.specs.Answers.{number_of}
 
 -- What the rules say of a statement in any table: the variables that it may assign; refused, with its number and row.
 pub data AssignedSaid : Type 0 where
@@ -13,9 +14,9 @@ pub data AssignedSaid : Type 0 where
   refused : ℕ → ℕ → AssignedSaid
 
 -- 10.11: Where a function answers with an enum, a definition gives these rules' numbers and values for each of its cases.
-abbrev pub said_of_assigned : Assigned → AssignedSaid
-said_of_assigned (Assigned.Variables set) = variables set
-said_of_assigned (Assigned.Refused number row) = refused number row
+abbrev pub said_of_assigned : Result ℕ Refusal → AssignedSaid
+said_of_assigned (Ok set) = variables set
+said_of_assigned (Err refusal) = refused (number_of refusal.fault) refusal.row
 
 abbrev pub variables_or : Judged → ℕ → AssignedSaid
 variables_or Judged.Accepted set = variables set

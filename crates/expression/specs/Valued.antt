@@ -1,13 +1,14 @@
 -- An expression's value and level in one answer, and what the public call answers.
-use Rattle.std.specs.Prelude.{ℕ, ◌%◌, ◌/◌, ◌^◌, List}
-use Rattle.rules.specs.declared.Judged.{Judged}
+use Rattle.std.specs.Prelude.{ℕ, ◌%◌, ◌/◌, ◌^◌, List, Result, Ok, Err}
+use Rattle.rules.specs.declared.Refusal.{Refusal}
+use Rattle.rules.specs.Judged.{Judged}
 use Rattle.rules.specs.Limits.{word_bits}
 use Rattle.rules.specs.Rows.{rows_of}
 use Rattle.rules.specs.Trees.{Expr, expr_at}
 use Rattle.rules.specs.Values.{value, level}
 use Rattle.rules.specs.Judging.{judge}
+use Rattle.rules.specs.Answers.{number_of}
 use Rattle.expression.specs.declared.values.Valued.{Valued}
-use Rattle.expression.specs.declared.values.Evaluation.{Evaluation}
 
 abbrev pub valued_of : List ℕ → ℕ → Expr → Valued
 valued_of memory marks e = record { value = value memory e; level = level marks e }
@@ -22,9 +23,9 @@ pub data ValueSaid : Type 0 where
   refused : ℕ → ℕ → ValueSaid
 
 -- 10.11: Where a function answers with an enum, a definition gives these rules' numbers and values for each of its cases.
-abbrev pub said_of_value : Evaluation → ValueSaid
-said_of_value (Evaluation.Found v) = found v.value v.level
-said_of_value (Evaluation.Refused number row) = refused number row
+abbrev pub said_of_value : Result Valued Refusal → ValueSaid
+said_of_value (Ok v) = found v.value v.level
+said_of_value (Err refusal) = refused (number_of refusal.fault) refusal.row
 
 abbrev pub found_or : Judged → Valued → ValueSaid
 found_or Judged.Accepted v = found v.value v.level

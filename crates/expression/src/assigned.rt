@@ -7,25 +7,18 @@ ghost use Rattle.rules.specs.Sound.{Sound};
 ghost use Rattle.expression.specs.Assigned.{said_of_assigned, assigned_at};
 
 use leaves::marks::{joined, only_mark};
-use rows::{has_row, read_row};
-use rules::{Judged, Kind, Marks};
+use rows::has_row;
+use rules::{Kind, Marks, Refusal};
 use table::judge;
+use table::judged::JudgedTable;
 
-// What the public call answers: the variables, or the judge's refusal of the table.
-#[derive(Drop)]
-pub enum Assigned {
-    Variables(Marks),
-    Refused { number: u32, row: u32 },
-}
-
-// The variables that the statement at a row may assign. The table's slice is lent in turn, as in `evaluate_lent`.
-fn may_assign_lent(table: &&[u32], row: u32) -> Marks
-    requires { Sound (rows_of table.now.now) × (row < length (rows_of table.now.now)) }
-    ensures { result ≡ may_assign (stmt_at (rows_of table.now.now) row) }
+// The variables that the statement at a row may assign.
+fn may_assign_lent(table: &JudgedTable, row: u32) -> Marks
+    requires { row < length table.now }
+    ensures { result ≡ may_assign (stmt_at table.now row) }
 {
-    let here = read_row(*table, row);
-    let kind = here.kind;
-    match kind {
+    let here = table.row(row);
+    match here.kind {
         Kind::Assign => only_mark(here.p),
         Kind::Sequence => joined(
             may_assign_lent(table, here.p),
@@ -41,25 +34,23 @@ fn may_assign_lent(table: &&[u32], row: u32) -> Marks
 }
 
 // The variables that the statement at a row may assign, for callers that hold a judged table.
+// Stays: words, and what is asked of their rows, since docs/CONTRACTS.md promises the call over them.
 pub fn may_assign(table: &[u32], row: u32) -> Marks
     requires { Sound (rows_of table.now) × (row < length (rows_of table.now)) }
     ensures { result ≡ may_assign (stmt_at (rows_of table.now) row) }
 {
-    may_assign_lent(&table, row)
+    may_assign_lent(&JudgedTable::new(table), row)
 }
 
+// Stays: beside `value_at`, with a law and a default of its own; one function over both would take the walk as a closure.
 // The variables that the statement at a row of any table may assign: the table is judged first. An expression's row, and a
 // row that the table does not have, is read as skip: it may assign no variable.
-pub fn assigned_at(table: &[u32], row: u32) -> Assigned
+pub fn assigned_at(table: &[u32], row: u32) -> Result<Marks, Refusal>
     ensures { said_of_assigned result ≡ assigned_at table.now row }
 {
-    let judged = judge(table);
-    if let Judged::Refused { number, row: at } = judged {
-        return Assigned::Refused { number, row: at };
-    }
+    judge(table)?;
     if !has_row(table, row) {
-        return Assigned::Variables(0);
+        return Ok(0);
     }
-    let variables = may_assign(table, row);
-    Assigned::Variables(variables)
+    Ok(may_assign(table, row))
 }

@@ -1,11 +1,15 @@
 -- Laws of lines that are read one after the other into a buffer.
 use Prim.Native.Nat.{ℕ, suc, ◌+◌, ◌-◌, ◌≤◌, ◌<◌}
 use native.Mathlib.Omega.{arith}
-use mathlib.Core.List.{List, [], ◌∷◌, ◌++◌}
-use mathlib.Core.Path.{◌≡◌, refl, sym, ap, ap₂, ◌∙◌}
+use mathlib.Core.List.{List, [], ◌∷◌, ◌++◌, append_assoc}
+use mathlib.Core.Path.{◌≡◌, refl, sym, ap, ◌∙◌}
 use lib.ListN.{length, take, drop, set, length-append}
 use lib.Seq.{sets, sets-eq, length-sets, length-take-le, take_at, drop-set-lt}
-use Rattle.job.specs.declared.Lines.{Lines as Answer}
+use borrow.Rule.Slice.PartMut.{put_mid, post_of}
+use Rattle.std.proofs.lemmas.List.{drop-drop}
+use Rattle.std.specs.Prelude.{Ok, Err}
+use Rattle.job.specs.declared.Fault.{Fault}
+use Rattle.job.specs.Faults.{fault_number}
 use Rattle.job.specs.Read.{LinesRead}
 use Rattle.job.specs.Jobs.{number_line, number_lines, row_line}
 use Rattle.lines.specs.Lines.{Line, line, faulty, Lines, lines, broken, on_line, lines_of}
@@ -67,6 +71,14 @@ pub drop_sets : (values words : List ℕ) (at n : ℕ) → at + length values �
 drop_sets [] words at n h = refl
 drop_sets (v ∷ values) words at n h = drop_sets values (set words at v) (suc at) n (omega arith) ∙ drop-set-lt n words at v (omega arith)
 
+-- words that were copied over a part of the buffer
+pub put_sets : (values words : List ℕ) (at : ℕ) → at + length values ≤ length words
+    → put_mid at (length values) words values ≡ sets words at values
+put_sets values words at h =
+    sym (append_assoc (take at words) values (post_of at (length values) words))
+    ∙ ap (λ (rest : List ℕ). (take at words ++ values) ++ rest) (drop-drop (length values) at words)
+    ∙ sym (sets-eq values words at h)
+
 -- ---- a loop over lines: i of count lines are read, their numbers are the first done of the buffer's words, and what is left
 -- of the lines leads to all of them
 
@@ -77,12 +89,6 @@ pub record Filling (course : ℕ → ℕ → List ℕ → List ℕ → Lines) (c
   pub leads : course (count - i) (first + i) (take done words) (drop at text) ≡ course count first [] (drop from text)
 
 module _ {form : ℕ → List ℕ → Line} {course : ℕ → ℕ → List ℕ → List ℕ → Lines} (is : Course form course) (count first all : ℕ) (text : List ℕ) (from : ℕ) (words₀ : List ℕ) where
-  pub filling_start : Filling course count first all text from words₀ words₀ from 0 0
-  filling_start =
-      let n : count - 0 ≡ count = omega arith in
-      let k : first + 0 ≡ first = omega arith in
-      record { within = omega arith; same = refl; kept = refl; leads = ap₂ (λ (m j : ℕ). course m j [] (drop from text)) n k }
-
   pub filling_again : {words left : List ℕ} {at i done next more : ℕ} (values : List ℕ) → i < count → line values (drop next text) ≡ form (first + i) (drop at text)
       → left ≡ sets words done values → more ≡ done + length values → more ≤ all → all ≤ length words₀
       → Filling course count first all text from words₀ words at i done → Filling course count first all text from words₀ left next (i + 1) more
@@ -96,17 +102,17 @@ module _ {form : ℕ → List ℕ → Line} {course : ℕ → ℕ → List ℕ �
         ∙ f.leads;
   }
 
-  pub filling_stop : {words : List ℕ} {at i done : ℕ} (refusal : ℕ) → i < count → faulty refusal ≡ form (first + i) (drop at text)
+  pub filling_stop : {words : List ℕ} {at i done : ℕ} (fault : Fault) → i < count → faulty (fault_number fault) ≡ form (first + i) (drop at text)
       → Filling course count first all text from words₀ words at i done
-      → LinesRead text all words₀ words (Answer.Faulty refusal (first + i)) (course count first [] (drop from text))
-  filling_stop {words} {at} {i} {done} refusal h e f = record {
-    said = lines_stop is count first i (take done words) (drop at text) refusal h e ∙ f.leads;
+      → LinesRead text all words₀ words (Err (record { fault = fault; line = first + i })) (course count first [] (drop from text))
+  filling_stop {words} {at} {i} {done} fault h e f = record {
+    said = lines_stop is count first i (take done words) (drop at text) (fault_number fault) h e ∙ f.leads;
     kept = f.kept;
     same = f.same;
   }
 
   pub filling_done : {words : List ℕ} {at i done : ℕ} → count ≤ i → all ≡ done → Filling course count first all text from words₀ words at i done
-      → LinesRead text all words₀ words (Answer.Next at) (course count first [] (drop from text))
+      → LinesRead text all words₀ words (Ok at) (course count first [] (drop from text))
   filling_done {words} {at} {i} {done} h e f = record {
     said =
         ap (λ (n : ℕ). lines (take n words) (drop at text)) e

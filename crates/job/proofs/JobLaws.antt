@@ -1,20 +1,24 @@
 -- Laws of a job that is read line by line: what each faulty line refuses, and what a whole job leaves.
 use Prim.Native.Nat.{ℕ, zero, suc, ◌+◌, ◌-◌, ◌*◌, ◌/◌, ◌≤◌, ◌<◌}
 use native.Mathlib.Omega.{arith}
-use mathlib.Core.Bool.{Bool}
+use mathlib.Core.Bool.{Bool, cond}
 use mathlib.Core.List.{List, [], ◌∷◌, ◌++◌}
 use mathlib.Core.Path.{◌≡◌, refl, sym, ap, ◌∙◌}
+use lib.Dec.{eqb}
 use lib.ListN.{length, get_or, take, drop, replicate, take-append-drop, drop_of_length-le, get_or-eq_default}
 use lib.Seq.{length-take-le}
 use borrow.Author.Tests.{lt-ltb, le-ltb}
 use Rattle.rules.specs.Limits.{width, row_words, most_rows, most_job_bytes, table_words}
-use Rattle.job.specs.declared.Read.{Read}
-use Rattle.job.specs.declared.Reading.{Reading}
-use Rattle.lines.specs.Limits.{most_word, lacks_form}
+use Rattle.std.specs.Prelude.{Result, Ok, Err}
+use Rattle.job.specs.declared.Fault.{Fault}
+use Rattle.job.specs.declared.Refusal.{Refusal}
+use Rattle.job.specs.declared.Job.{Job}
+use Rattle.job.specs.Faults.{fault_number}
+use Rattle.lines.specs.Limits.{most_word, lacks_form, out_of_range}
 use Rattle.job.specs.Limits.{too_long}
 use Rattle.lines.specs.Lines.{in_key, rows_key, Line, line, faulty, line_of, Lines, lines, broken, lines_of}
-use Rattle.job.specs.Jobs.{Told, told, untold, one, many, finish, head, first_input, form_at, job_of, row_line, read_table, read_lines, sized, read_job}
-use Rattle.job.specs.Read.{filled, ReadSaid, job, refused, said_of_read, ReadingSaid, said_of_reading, reading}
+use Rattle.job.specs.Jobs.{Told, told, untold, one, many, finish, Form, head, first_input, form_at, number_line, job_of, row_line, read_table, read_lines, sized, read_job}
+use Rattle.job.specs.Read.{filled, ReadSaid, job, refused, ReadingSaid, said_of_reading, reading}
 use Rattle.lines.proofs.NumberLaws.{drop_next}
 
 -- ---- the form of a line of one number
@@ -22,6 +26,10 @@ use Rattle.lines.proofs.NumberLaws.{drop_next}
 pub input_form : (at : ℕ) → first_input ≤ at → form_at at ≡ record { key = in_key; most = most_word }
 unfolding form_at
 input_form at h = get_or-eq_default head _ {n = at - 1} (omega arith)
+
+pub input_line : (at : ℕ) (text : List ℕ) → first_input ≤ at → line_of (in_key ∷ []) most_word text ≡ number_line at text
+unfolding number_line
+input_line at text h = sym (ap (λ (f : Form). line_of (f.key ∷ []) f.most text) (input_form at h))
 
 -- each number is in the range of its line, from line at on
 abbrev pub Within : ℕ → List ℕ → Type 0
@@ -137,21 +145,34 @@ unfolding reading
 reading_told numbers memory table values words rows m t r =
     λ i. record { said = job (get_or numbers 0 0) (get_or numbers 1 0) (get_or numbers 2 0) (r i); memory = m i; table = t i }
 
+pub reading_refused : (number at : ℕ) → ◌≡◌ {A = ReadingSaid} (record { said = refused number at; memory = filled width []; table = filled table_words [] })
+    (reading (untold number at))
+unfolding reading
+reading_refused number at = refl
+
 -- ---- two answers that say the same are the same: each is read back from what it says
 
-read_from : ReadSaid → Read
-read_from (job budget room marks rows) = Read.Job budget room marks rows
-read_from (refused refusal at) = Read.Refused refusal at
+fault_from : ℕ → Fault
+fault_from number = cond (eqb number lacks_form) Fault.LacksForm (cond (eqb number out_of_range) Fault.OutOfRange Fault.TooLong)
 
-read_back : (a : Read) → read_from (said_of_read a) ≡ a
-unfolding read_from
-read_back (Read.Job budget room marks rows) = refl
-read_back (Read.Refused refusal at) = refl
+fault_back : (fault : Fault) → fault_from (fault_number fault) ≡ fault
+unfolding fault_from
+fault_back Fault.LacksForm = refl
+fault_back Fault.OutOfRange = refl
+fault_back Fault.TooLong = refl
 
-pub read_unique : (a b : Read) → said_of_read a ≡ said_of_read b → a ≡ b
-read_unique a b e = sym (read_back a) ∙ ap read_from e ∙ read_back b
+read_from : ReadSaid → List ℕ → List ℕ → Result Job Refusal
+read_from (job budget room marks rows) memory table =
+    Ok (record { budget = budget; room = room; marks = marks; rows = rows; memory = record { words = memory }; table = table })
+read_from (refused number at) memory table = Err (record { fault = fault_from number; line = at })
 
-pub reading_unique : (a b : Reading) → said_of_reading a ≡ said_of_reading b → a ≡ b
-reading_unique a b e =
-    let read = read_unique a.read b.read (ap (λ (s : ReadingSaid). s.said) e) in
-    λ i. record { read = read i; memory = record { words = (e i).memory }; table = (e i).table }
+reading_from : ReadingSaid → Result Job Refusal
+reading_from s = read_from s.said s.memory s.table
+
+reading_back : (a : Result Job Refusal) → reading_from (said_of_reading a) ≡ a
+unfolding reading_from read_from
+reading_back (Ok read) = refl
+reading_back (Err refusal) = ap (λ (fault : Fault). Err (record { fault = fault; line = refusal.line })) (fault_back refusal.fault)
+
+pub reading_unique : (a b : Result Job Refusal) → said_of_reading a ≡ said_of_reading b → a ≡ b
+reading_unique a b e = sym (reading_back a) ∙ ap reading_from e ∙ reading_back b

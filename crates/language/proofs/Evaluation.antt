@@ -5,7 +5,8 @@ use Rattle.lines.specs.Numbers.{is_digit, on_byte, digits_on, begun, number_at}
 use Rattle.language.specs.Words as words
 use Rattle.language.specs.Words.{is_blank, is_letter, is_joining, joins, grown, words_from}
 use Rattle.language.specs.Tokens.{fixed, same, whole_number, counted, among, token_of}
-use Rattle.language.specs.Tables.{operator_number, table_of, makes_provisional, marks_from, marks_of}
+use Rattle.rules.specs.Trees.{operator_number}
+use Rattle.language.specs.Tables.{table_of, makes_provisional, marks_from, marks_of}
 use Rattle.language.specs.Readings.{part_at, on_declared, repeated, laid, judged, sized, declared, reading_of}
 use Rattle.language.specs.Cases.{TextsRead, TextsRefused, WordsTold}
 

@@ -10,4 +10,5 @@ mod Declared
 pub mod Answered
 mod FaultCases
 pub mod Evaluation
+pub mod SaidLaws
 pub mod Claims

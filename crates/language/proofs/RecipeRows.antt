@@ -19,7 +19,8 @@ use Rattle.rules.specs.Cases.{Quad}
 use Rattle.rules.proofs.TreeLaws.{expr_of_fitting, stmt_of_fitting}
 use Rattle.language.specs.Recipes.{Statement, skip, set, if, while, Block, one, more, expr_tokens, statement_tokens, block_tokens}
 use Rattle.language.specs.Recipes as recipe
-use Rattle.language.specs.Tables.{expr_below, expr_size, statement_below, statement_size, block_below, block_size, operator_number, expr_rows, statement_rows, block_rows, statement_tree, block_tree}
+use Rattle.rules.specs.Trees.{operator_number}
+use Rattle.language.specs.Tables.{expr_below, expr_size, statement_below, statement_size, block_below, block_size, expr_rows, statement_rows, block_rows, statement_tree, block_tree}
 use Rattle.language.proofs.KnownWords.{AllKnown, known_first, known_rest}
 use Rattle.rules.proofs.PartLaws.{row_from, made, Part, part_first, part_rest, part_row, part_within, Grown, own, join}
 

@@ -8,7 +8,7 @@ use mathlib.Core.Path.{◌≡◌, refl, sym, ap, ◌∙◌}
 use lib.Dec.{eqb}
 use lib.ListN.{length}
 use borrow.Author.Tests.{eq-eqb, ne_eqb, eqb-true, eqb-false, le-ltb}
-use Rattle.rules.specs.declared.Judged.{Judged}
+use Rattle.rules.specs.Judged.{Judged}
 use Rattle.rules.specs.Limits.{row_words, most_rows}
 use Rattle.rules.specs.Rows.{is_expression, row_at}
 use Rattle.rules.specs.Trees as tree

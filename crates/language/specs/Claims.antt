@@ -1,6 +1,6 @@
 -- What is claimed of texts and recipes, and every claim of this crate. Its one proof cites theirs, so that none of them can go missing.
 use Rattle.std.specs.Prelude.{ℕ, ◌*◌, ◌≤◌, ◌<◌, Bool, List, ◌∷◌, ◌++◌, ◌⊎◌, ◌≡◌, length, take, drop}
-use Rattle.rules.specs.declared.Judged.{Judged}
+use Rattle.rules.specs.Judged.{Judged}
 use Rattle.rules.specs.Limits.{row_words, most_rows}
 use Rattle.rules.specs.Marks.{none, has}
 use Rattle.rules.specs.Rows.{rows_of}

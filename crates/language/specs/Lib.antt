@@ -5,6 +5,8 @@ pub mod Words
 pub mod Tokens
 pub mod Recipes
 pub mod Tables
+pub mod Said
 pub mod Readings
+pub mod Answers
 pub mod Cases
 pub mod Claims

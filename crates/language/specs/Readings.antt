@@ -1,11 +1,11 @@
 -- What a text reads as: a recipe; or a refusal, and the part of the text that is handed back.
 use Rattle.std.specs.Prelude.{ℕ, ◌≤◌, ◌<◌, Bool, true, false, List, [], ◌∷◌, ◌++◌, ◌≡◌, leb, length, take, drop}
-use Rattle.rules.specs.declared.Judged.{Judged}
+use Rattle.rules.specs.Judged.{Judged}
 use Rattle.rules.specs.Limits.{most_rows}
 use Rattle.rules.specs.Marks.{none, has, put}
 use Rattle.rules.specs.Judging.{judge}
 use Rattle.language.specs.declared.Part.{Part}
-use Rattle.language.specs.declared.Said.{Said}
+use Rattle.language.specs.Said.{Said}
 use Rattle.language.specs.Limits.{most_text_bytes, too_long, faulty_word, declared_again, too_many_rows, table_too_short}
 use Rattle.language.specs.Words.{Word, words_from}
 use Rattle.language.specs.Tokens.{Token, token_of, tokens}

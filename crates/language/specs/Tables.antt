@@ -1,10 +1,10 @@
 -- The table of a recipe, the tree that its rows stand for, and its start marks.
 use Rattle.std.specs.Prelude.{ℕ, ◌+◌, Bool, true, false, ◌&&◌, ◌||◌, List, [], ◌∷◌, ◌++◌, eqb}
 use Rattle.rules.specs.declared.Kind.{Kind}
-use Rattle.rules.specs.declared.Operator.{Operator}
+use Rattle.rules.specs.Rows.{kind_number}
 use Rattle.rules.specs.Marks.{none, put}
 use Rattle.rules.specs.Trees as tree
-use Rattle.rules.specs.Trees.{Expr, constant, variable, binary, Stmt}
+use Rattle.rules.specs.Trees.{Expr, constant, variable, binary, Stmt, operator_number}
 use Rattle.rules.specs.Cases.{Quad, words_of}
 use Rattle.language.specs.Recipes.{Statement, skip, set, if, while, Block, one, more, Level, plain, Declaration, Recipe}
 use Rattle.language.specs.Recipes as recipe
@@ -39,29 +39,6 @@ abbrev pub block_size : Block → ℕ
 block_size b = block_below b + 1
 
 -- ---- the rows of each, the first of them at row base; a child's rows come before its own, in reading order
-
--- an unknown kind stands in no row, and 11 is the number of none
--- 2.2: The kinds have these numbers, and every other number is an unknown kind.
-abbrev pub kind_number : Kind → ℕ
-kind_number Kind.Skip = 0
-kind_number Kind.Assign = 1
-kind_number Kind.Sequence = 2
-kind_number Kind.If = 3
-kind_number Kind.While = 4
-kind_number Kind.Output = 5
-kind_number Kind.Constant = 8
-kind_number Kind.Variable = 9
-kind_number Kind.Binary = 10
-kind_number Kind.Unknown = 11
-
--- 2.7: The operators are 0 sum, 1 difference, 2 product, 3 quotient, 4 equal and 5 less.
-unfoldable pub operator_number : Operator → ℕ
-operator_number Operator.Sum = 0
-operator_number Operator.Difference = 1
-operator_number Operator.Product = 2
-operator_number Operator.Quotient = 3
-operator_number Operator.Equal = 4
-operator_number Operator.Less = 5
 
 abbrev pub expr_rows : ℕ → Expr → List Quad
 expr_rows base (constant value) = (kind_number Kind.Constant, value, 0, 0) ∷ []

@@ -1,11 +1,13 @@
 // Mark sets. A variable's number counts modulo 32, so that every number names a variable; the variables of a judged table are
 // below 32.
 // 1.3: A mark set is a number of 32 bits: bit i is 1 where vi is marked, that is provisional, and 0 where vi is settled.
-ghost use Rattle.std.specs.Prelude.{◌≡◌, ◌%◌, true, false};
+ghost use Rattle.std.specs.Prelude.{◌≡◌, ◌%◌};
 ghost use Rattle.rules.specs.Limits.{width};
 ghost use Rattle.rules.specs.Marks.{has, put, only, union};
 
 use rules::{Marks, VARIABLES};
+
+// Stays: rule 1.3 makes a mark set a number of 32 bits, as which C, jobs and reports have it; a type of its own would be unwrapped at each.
 
 // The set of one variable.
 pub fn only_mark(variable: u32) -> Marks
@@ -21,28 +23,15 @@ pub fn has_mark(marks: Marks, variable: u32) -> bool
     marks & only_mark(variable) != 0
 }
 
-// The set with the variable.
-fn with_mark(marks: Marks, variable: u32) -> Marks
-    ensures { result ≡ put (variable % width) true marks }
-{
-    marks | only_mark(variable)
-}
-
-// The set without the variable.
-fn without_mark(marks: Marks, variable: u32) -> Marks
-    ensures { result ≡ put (variable % width) false marks }
-{
-    marks & !only_mark(variable)
-}
-
 // The set with the variable marked or unmarked.
 pub fn mark_as(marks: Marks, variable: u32, bit: bool) -> Marks
     ensures { result ≡ put (variable % width) bit marks }
 {
     if bit {
-        return with_mark(marks, variable);
+        marks | only_mark(variable)
+    } else {
+        marks & !only_mark(variable)
     }
-    without_mark(marks, variable)
 }
 
 // What stands in either set.

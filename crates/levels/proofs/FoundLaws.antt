@@ -1,5 +1,5 @@
 -- What a walk finds: its lowest failing row put together from those of its parts, each kind of statement, and a loop's rounds.
-use Prim.Native.Nat.{ℕ, zero, suc, ◌+◌, ◌-◌, ◌<◌, ◌≤◌, min}
+use Prim.Native.Nat.{ℕ, ◌-◌, min}
 use native.Mathlib.Omega.{arith}
 use mathlib.Core.Bool.{Bool, true, false, cond, ◌&&◌}
 use mathlib.Core.List.{List, [], ◌∷◌, ◌++◌, append-nil}
@@ -8,8 +8,7 @@ use mathlib.Core.Path.{◌≡◌, refl, sym, ap, ap₂, ◌∙◌}
 use denote.Enum.Declared.{tag_of}
 use types.Run.{OneOf}
 use lib.Dec.{eqb}
-use borrow.Author.Tests.{eq-eqb, ne_eqb}
-use Rattle.rules.specs.declared.Checked.{Checked}
+use Rattle.std.specs.Prelude.{Option, None, Some}
 use Rattle.rules.specs.declared.Kind.{Kind}
 use Rattle.rules.specs.Marks.{put, union}
 use Rattle.rules.specs.Trees.{Expr, Stmt, assign, if, output}
@@ -35,45 +34,12 @@ lowest_both a b (row ∷ rows) others = lowest_both (min a row) b rows others
 
 pub lowest_append : (rows others : List ℕ) → lowest_in (rows ++ others) ≡ lower_of (lowest_in rows) (lowest_in others)
 lowest_append [] others = refl
-lowest_append (a ∷ rows) [] = ap (λ (l : List ℕ). suc (lowest_of a l)) (append-nil rows)
-lowest_append (a ∷ rows) (b ∷ others) = ap suc (lowest_both a b rows others)
+lowest_append (a ∷ rows) [] = ap (λ (l : List ℕ). Some (lowest_of a l)) (append-nil rows)
+lowest_append (a ∷ rows) (b ∷ others) = ap Some (lowest_both a b rows others)
 
 pub checked_at_lowest : (rows : List ℕ) → checked_at (lowest_in rows) ≡ checked_of rows
 checked_at_lowest [] = refl
 checked_at_lowest (a ∷ rows) = refl
-
-pub checked_some : (n : ℕ) → (n ≡ 0 → ⊥) → Checked.Fail (n - 1) ≡ checked_at n
-checked_some zero some = absurd (some refl)
-checked_some (suc n) some = let less : suc n - 1 ≡ n = omega arith in ap Checked.Fail less
-
-pub lower_other : (a b : ℕ) → (a ≡ 0 → ⊥) → b ≡ 0 → a ≡ lower_of a b
-lower_other zero b some e = absurd (some refl)
-lower_other (suc a) zero some e = refl
-lower_other (suc a) (suc b) some e = absurd (omega arith)
-
-pub lower_second : (a b : ℕ) → (a ≡ 0 → ⊥) → (b ≡ 0 → ⊥) → b < a → b ≡ lower_of a b
-lower_second zero b some other h = absurd (some refl)
-lower_second (suc a) zero some other h = absurd (other refl)
-lower_second (suc a) (suc b) some other h = let less : b ≡ min a b = omega arith in ap suc less
-
-pub lower_first : (a b : ℕ) → (a ≡ 0 → ⊥) → (b ≡ 0 → ⊥) → a ≤ b → a ≡ lower_of a b
-lower_first zero b some other h = absurd (some refl)
-lower_first (suc a) zero some other h = absurd (other refl)
-lower_first (suc a) (suc b) some other h = let less : a ≡ min a b = omega arith in ap suc less
-
--- ---- an output
-
-module _ (channel row : ℕ) (guarded : Bool) where
-  pub passes_elsewhere : (channel ≡ 0 → ⊥) → 0 ≡ failed_at (eqb channel 0 && guarded) row
-  passes_elsewhere other = sym (ap (λ (b : Bool). failed_at (b && guarded) row) (ne_eqb channel 0 other))
-
-  pub fails_guarded : channel ≡ 0 → guarded ≡ true → row + 1 ≡ failed_at (eqb channel 0 && guarded) row
-  fails_guarded settled g =
-      let more : row + 1 ≡ suc row = omega arith in
-      more ∙ sym (ap₂ (λ (b c : Bool). failed_at (b && c) row) (eq-eqb channel 0 settled) g)
-
-  pub passes_settled : channel ≡ 0 → guarded ≡ false → 0 ≡ failed_at (eqb channel 0 && guarded) row
-  passes_settled settled g = sym (ap₂ (λ (b c : Bool). failed_at (b && c) row) (eq-eqb channel 0 settled) g)
 
 -- ---- each kind of statement
 
@@ -85,17 +51,17 @@ skip_left kind (inl here) other = inl here
 skip_left kind (inr (inl here)) other = absurd (other (kind_arm {f = λ k. k} {ks = 2 ∷ []} (record { each = refl }) kind here))
 skip_left kind (inr (inr among)) other = inr among
 
-abbrev pub pair : ℕ → ℕ → Found
+abbrev pub pair : ℕ → Option ℕ → Found
 pair marks lowest = record { marks = marks; lowest = lowest }
 
 module _ (context : Bool) (marks : ℕ) where
   pub found_assign :
       (v : ℕ) (e : Expr) {after : ℕ} → after ≡ put v (under e context marks) marks
-      → record { marks = after; lowest = 0 } ≡ found_of (walk (assign v e) context marks)
-  found_assign v e h = ap (λ (m : ℕ). pair m 0) h
+      → record { marks = after; lowest = None } ≡ found_of (walk (assign v e) context marks)
+  found_assign v e h = ap (λ (m : ℕ). pair m None) h
 
   pub found_if :
-      (e : Expr) (s t : Stmt) {inside : Bool} {then other : Found} {after lowest : ℕ} → inside ≡ under e context marks
+      (e : Expr) (s t : Stmt) {inside : Bool} {then other : Found} {after : ℕ} {lowest : Option ℕ} → inside ≡ under e context marks
       → then ≡ found_of (walk s inside marks) → other ≡ found_of (walk t inside marks) → after ≡ union then.marks other.marks
       → lowest ≡ lower_of then.lowest other.lowest
       → record { marks = after; lowest = lowest } ≡ found_of (walk (if e s t) context marks)
@@ -107,7 +73,7 @@ module _ (context : Bool) (marks : ℕ) where
       ∙ sym (lowest_append (walk s (under e context marks) marks).failing (walk t (under e context marks) marks).failing))
 
   pub found_output :
-      (channel : ℕ) (e : Expr) (row : ℕ) {lowest : ℕ} → lowest ≡ failed_at (eqb channel 0 && under e context marks) row
+      (channel : ℕ) (e : Expr) (row : ℕ) {lowest : Option ℕ} → lowest ≡ failed_at (eqb channel 0 && under e context marks) row
       → record { marks = marks; lowest = lowest } ≡ found_of (walk (output channel e row) context marks)
   found_output channel e row h = ap (pair marks) (h ∙ one (eqb channel 0 && under e context marks))
     where
@@ -132,5 +98,5 @@ module _ (body : ℕ → Walked) (n set : ℕ) (final : Walked) (here : rounds n
     goes_on other =
         ap (rounds (n - 1) body) adds_body ∙ sym (rounds_on body n set some (λ e. other (adds_body ∙ e))) ∙ here
 
-  pub over_here : n ≡ 0 → record { marks = set; lowest = 0 } ≡ found_of final
+  pub over_here : n ≡ 0 → record { marks = set; lowest = None } ≡ found_of final
   over_here none = ap found_of (sym (ap (λ (k : ℕ). rounds k body set) none ∙ rounds_over body set) ∙ here)

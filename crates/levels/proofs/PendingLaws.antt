@@ -1,81 +1,69 @@
 -- The rows that are pending in a walk: what they come to, one after another, and how many parts they have.
-use Prim.Native.Nat.{ℕ, zero, suc, ◌+◌, ◌-◌, ◌≤◌, ◌<◌, min}
-use native.Mathlib.Omega.{arith}
-use mathlib.Core.Bool.{Bool}
-use mathlib.Core.List.{List}
-use mathlib.Core.Path.{◌≡◌, refl, sym, ap, ap₂, ◌∙◌, subst}
-use borrow.Author.Count.{below_more}
-use lib.ListN.{length, get_or, set, length-set}
-use lib.Seq.{get_or-set_same, get_or-set_other}
+use Rattle.std.proofs.Common.{◌≡◌, ℕ, ◌+◌, ◌≤◌, ◌<◌, min, Bool, List, [], ◌∷◌, ◌++◌, length, drop, Option, None, Some, refl, sym, ap, ap₂, ◌∙◌, append_assoc, arith, length-append}
+use Rattle.std.proofs.lemmas.List.{append-nil}
 use Rattle.rules.specs.declared.Kind.{Kind}
 use Rattle.rules.specs.declared.Row.{Row}
 use Rattle.rules.specs.Limits.{most_rows}
 use Rattle.rules.specs.Rows.{row_at}
 use Rattle.rules.specs.Trees.{Stmt, skip, assign, sequence, if, while, output, stmt_at}
+use Rattle.rules.specs.Sound.{Sound}
 use Rattle.rules.specs.LevelCheck.{Walked, walk}
 use Rattle.rules.proofs.StatementLaws.{Below, is_sequence}
 use Rattle.levels.specs.declared.walk.Found.{Found}
 use Rattle.levels.specs.Found.{lower_of, lowest_in, found_of}
-use Rattle.levels.specs.Pending.{Room, Kept}
 use Rattle.levels.proofs.FoundLaws.{pair, lowest_append}
 
-pub kept_same : (pending : List ℕ) (base : ℕ) → Kept pending pending base
-kept_same pending base = record { long = refl; below = λ i h. refl }
+-- ---- lists by their last element
 
-pub kept_on :
-    {pending pending' pending'' : List ℕ} {base n : ℕ} → Kept pending pending' base → base ≤ n → Kept pending' pending'' n → Kept pending pending'' base
-kept_on first h second = record {
-  long = second.long ∙ first.long;
-  below = λ i g. second.below i (omega arith) ∙ first.below i g;
-}
+-- a list that has one
+record Ended (xs : List ℕ) : Type 0 where
+  front : List ℕ
+  last : ℕ
+  is : xs ≡ front ++ last ∷ []
 
--- room for a row is room for one that is lower by as much as its place is higher
-pub room_on :
-    {rows : List Row} {pending pending' : List ℕ} {base row b n at : ℕ} → Room rows pending base row → Kept pending pending' b
-    → n + at ≤ base + row → Room rows pending' n at
-room_on room kept h = record { sound = room.sound; long = kept.long ∙ room.long; within = omega (arith, room.within) }
+ended : (x : ℕ) (xs : List ℕ) → Ended (x ∷ xs)
+ended x [] = record { front = []; last = x; is = refl }
+ended x (y ∷ ys) =
+    let rest : Ended (y ∷ ys) = ended y ys in
+    record { front = x ∷ rest.front; last = rest.last; is = ap (λ (l : List ℕ). x ∷ l) rest.is }
 
--- ---- an array's entries from a base on, k of them, the last first
+abbrev head_or : ℕ → List ℕ → ℕ
+head_or d [] = d
+head_or d (x ∷ xs) = x
 
-pub over : {A : Type 0} → (ℕ → A → A) → List ℕ → ℕ → ℕ → A → A
-over step pending base zero a = a
-over step pending base (suc k) a = over step pending base k (step (get_or pending (base + k) 0) a)
+abbrev tail_of : List ℕ → List ℕ
+tail_of [] = []
+tail_of (x ∷ xs) = xs
 
-module _ {A : Type 0} (step : ℕ → A → A) (base : ℕ) where
-  over_kept :
-      (pending pending' : List ℕ) (k : ℕ) (a : A) → ((i : ℕ) → i < base + k → get_or pending' i 0 ≡ get_or pending i 0)
-      → over step pending' base k a ≡ over step pending base k a
-  unfolding over
-  over_kept pending pending' zero a same = refl
-  over_kept pending pending' (suc k) a same =
-      over_kept pending pending' k (step (get_or pending' (base + k) 0) a) (λ i h. same i (omega arith))
-      ∙ ap (λ (x : ℕ). over step pending base k (step x a)) (same (base + k) (omega arith))
+same_end : (xs ys : List ℕ) (x y : ℕ) → xs ++ x ∷ [] ≡ ys ++ y ∷ [] → (xs ≡ ys) × (x ≡ y)
+same_end [] [] x y e = (refl, ap (head_or 0) e)
+same_end [] (b ∷ []) x y e = absurd (omega (arith, ap length e))
+same_end [] (b ∷ c ∷ ys) x y e = absurd (omega (arith, ap length e))
+same_end (a ∷ []) [] x y e = absurd (omega (arith, ap length e))
+same_end (a ∷ c ∷ xs) [] x y e = absurd (omega (arith, ap length e))
+same_end (a ∷ xs) (b ∷ ys) x y e =
+    let rest : (xs ≡ ys) × (x ≡ y) = same_end xs ys x y (ap tail_of e) in
+    (ap₂ (λ (h : ℕ) (t : List ℕ). h ∷ t) (ap (head_or 0) e) rest.0, rest.1)
 
-  over_pop :
-      (pending : List ℕ) (m n : ℕ) (a : A) → n ≡ m + 1 → base ≤ m
-      → over step pending base (n - base) a ≡ over step pending base (m - base) (step (get_or pending m 0) a)
-  unfolding over
-  over_pop pending m n a e h =
-      let more : n - base ≡ suc (m - base) = omega arith in
-      let here : base + (m - base) ≡ m = omega arith in
-      ap (λ (k : ℕ). over step pending base k a) more
-      ∙ ap (λ (i : ℕ). over step pending base (m - base) (step (get_or pending i 0) a)) here
+none_left : (xs : List ℕ) → length xs ≡ 0 → xs ≡ []
+none_left [] e = refl
+none_left (x ∷ xs) e = absurd (omega (arith, e))
 
-  over_push :
-      (pending : List ℕ) (n x : ℕ) (a : A) → n < length pending → base ≤ n
-      → over step (set pending n x) base (n + 1 - base) a ≡ over step pending base (n - base) (step x a)
-  over_push pending n x a room h =
-      over_pop (set pending n x) n (n + 1) a refl h
-      ∙ ap (λ (y : ℕ). over step (set pending n x) base (n - base) (step y a)) (get_or-set_same pending n x 0 room)
-      ∙ over_kept pending (set pending n x) (n - base) (step x a) (λ i g. get_or-set_other pending n i x 0 (λ e. omega arith))
+some_left : (xs : List ℕ) → (length xs ≡ 0 → ⊥) → Ended xs
+some_left [] some = absurd (some refl)
+some_left (x ∷ xs) some = ended x xs
+
+drop_base : (base rest : List ℕ) → drop (length base) (base ++ rest) ≡ rest
+drop_base [] rest = refl
+drop_base (x ∷ base) rest = drop_base base rest
 
 -- ---- what the rows come to
 
-lower_assoc : (a b c : ℕ) → lower_of a (lower_of b c) ≡ lower_of (lower_of a b) c
-lower_assoc zero b c = refl
-lower_assoc (suc a) zero c = refl
-lower_assoc (suc a) (suc b) zero = refl
-lower_assoc (suc a) (suc b) (suc c) = let grouped : min a (min b c) ≡ min (min a b) c = omega arith in ap suc grouped
+lower_assoc : (a b c : Option ℕ) → lower_of a (lower_of b c) ≡ lower_of (lower_of a b) c
+lower_assoc None b c = refl
+lower_assoc (Some a) None c = refl
+lower_assoc (Some a) (Some b) None = refl
+lower_assoc (Some a) (Some b) (Some c) = let grouped : min a (min b c) ≡ min (min a b) c = omega arith in ap Some grouped
 
 -- what was found, and what a further statement adds to it
 abbrev further : Found → Walked → Found
@@ -86,7 +74,7 @@ taking rows context row found = further found (walk (stmt_at rows row) context f
 
 module _ (rows : List Row) (context : Bool) where
   pub taking_part :
-      (row : ℕ) (found part : Found) (lowest : ℕ) → part ≡ found_of (walk (stmt_at rows row) context found.marks)
+      (row : ℕ) (found part : Found) (lowest : Option ℕ) → part ≡ found_of (walk (stmt_at rows row) context found.marks)
       → lowest ≡ lower_of found.lowest part.lowest → pair part.marks lowest ≡ taking rows context row found
   taking_part row found part lowest walked both =
       ap₂ pair (ap (λ (f : Found). f.marks) walked) (both ∙ ap (λ (f : Found). lower_of found.lowest f.lowest) walked)
@@ -102,6 +90,32 @@ module _ (rows : List Row) (context : Bool) where
       (ap (lower_of found.lowest) (lowest_append first.failing second.failing)
       ∙ lower_assoc found.lowest (lowest_in first.failing) (lowest_in second.failing))
 
+  -- all that are pending, the last first
+  abbrev taking_all : List ℕ → Found → Found
+  taking_all [] found = found
+  taking_all (x ∷ xs) found = taking rows context x (taking_all xs found)
+
+  taking_last : (xs : List ℕ) (x : ℕ) (found : Found) → taking_all (xs ++ x ∷ []) found ≡ taking_all xs (taking rows context x found)
+  taking_last [] x found = refl
+  taking_last (y ∷ ys) x found = ap (taking rows context y) (taking_last ys x found)
+
+-- ---- how high the rows may be
+
+-- a row and its place together do not exceed where the walk began
+abbrev Low : ℕ → ℕ → List ℕ → Type 0
+Low row k [] = Unit {0}
+Low row k (x ∷ xs) = (k + x ≤ row) × Low row (k + 1) xs
+
+low_more : (row k : ℕ) (xs : List ℕ) (x : ℕ) → Low row k xs → k + length xs + x ≤ row → Low row k (xs ++ x ∷ [])
+low_more row k [] x low h = (omega (arith, h), tt)
+low_more row k (y ∷ ys) x low h = (low.0, low_more row (k + 1) ys x low.1 (omega (arith, h)))
+
+low_less : (row k : ℕ) (xs : List ℕ) (x : ℕ) → Low row k (xs ++ x ∷ []) → Low row k xs × (k + length xs + x ≤ row)
+low_less row k [] x low = (tt, omega (arith, low.0))
+low_less row k (y ∷ ys) x low =
+    let rest : Low row (k + 1) ys × (k + 1 + length ys + x ≤ row) = low_less row (k + 1) ys x low.1 in
+    ((low.0, rest.0), omega (arith, rest.1))
+
 -- ---- how many parts the rows have
 
 parts : Stmt → ℕ
@@ -112,130 +126,149 @@ parts (if e s t) = 0
 parts (while e s) = 0
 parts (output c e row) = 0
 
-pub weighing : List Row → ℕ → ℕ → ℕ
-weighing rows row n = parts (stmt_at rows row) + 1 + n
+abbrev weight : List Row → ℕ → ℕ
+weight rows row = parts (stmt_at rows row) + 1
 
-over_less :
-    (rows : List Row) (pending : List ℕ) (base k : ℕ) {a b : ℕ} → a < b
-    → over (weighing rows) pending base k a < over (weighing rows) pending base k b
-unfolding over weighing
-over_less rows pending base zero h = h
-over_less rows pending base (suc k) h = over_less rows pending base k (omega arith)
+abbrev weights : List Row → List ℕ → ℕ
+weights rows [] = 0
+weights rows (x ∷ xs) = weight rows x + weights rows xs
 
--- the parts that are left: those of the row at hand, and of the rows that are pending from the base up to n
-pub left : List Row → List ℕ → ℕ → ℕ → ℕ → ℕ
-left rows pending base n at = over (weighing rows) pending base (n - base) (weighing rows at 0)
+weights_last : (rows : List Row) (xs : List ℕ) (x : ℕ) → weights rows (xs ++ x ∷ []) ≡ weights rows xs + weight rows x
+weights_last rows [] x = omega arith
+weights_last rows (y ∷ ys) x = omega (arith, weights_last rows ys x)
+
+-- the parts that are left: those of the row at hand, and of the rows that are pending above the base
+pub left : List Row → List ℕ → List ℕ → ℕ → ℕ
+left rows base pending at = weights rows (drop (length base) pending) + weight rows at
+
+left_above : (rows : List Row) (base rest : List ℕ) (at : ℕ) → left rows base (base ++ rest) at ≡ weights rows rest + weight rows at
+unfolding left
+left_above rows base rest at = ap (λ (l : List ℕ). weights rows l + weight rows at) (drop_base base rest)
 
 -- ---- a walk that is under way
 
--- The row at hand, and then the pending ones, lead from what was found to the final answer; each row is lower than the statement's
--- by as much as its place is higher.
-pub record UnderWay
-    (rows : List Row) (context : Bool) (base row : ℕ) (pending₀ : List ℕ) (final : Found) (pending : List ℕ) (found : Found) (n at : ℕ) : Type 0 where
-  pub higher : base ≤ n
-  pub low : n + at ≤ base + row
-  pub lows : (i : ℕ) → i < n → base ≤ i → i + get_or pending i 0 ≤ base + row
-  pub kept : Kept pending₀ pending base
-  pub rest : over (taking rows context) pending base (n - base) (taking rows context at found) ≡ final
+pub record UnderWay (rows : List Row) (context : Bool) (row : ℕ) (base : List ℕ) (final : Found) (pending : List ℕ) (found : Found) (at : ℕ) : Type 0 where
+  rest : List ℕ
+  split : pending ≡ base ++ rest
+  pub low : length pending + at ≤ length base + row
+  lows : Low row 0 rest
+  goes : taking_all rows context rest (taking rows context at found) ≡ final
 
 pub way_start :
-    (rows : List Row) (context : Bool) (base row marks : ℕ) (pending : List ℕ)
-    → UnderWay rows context base row pending (found_of (walk (stmt_at rows row) context marks)) pending (pair marks 0) base row
-unfolding over
-way_start rows context base row marks pending = record {
-  higher = omega arith;
-  low = omega arith;
-  lows = λ i g h. absurd (omega arith);
-  kept = kept_same pending base;
-  rest = let none : base - base ≡ 0 = omega arith in ap (λ (k : ℕ). over (taking rows context) pending base k (taking rows context row (pair marks 0))) none;
-}
+    (rows : List Row) (context : Bool) (row marks : ℕ) (pending : List ℕ)
+    → UnderWay rows context row pending (found_of (walk (stmt_at rows row) context marks)) pending (pair marks None) row
+way_start rows context row marks pending =
+    record { rest = []; split = sym (append-nil pending); low = omega arith; lows = tt; goes = refl }
 
 module _
-    {rows : List Row} {context : Bool} {base row : ℕ} {pending₀ : List ℕ} {final : Found} {pending : List ℕ} {found : Found} {n at : ℕ}
-    (room : Room rows pending₀ base row) (way : UnderWay rows context base row pending₀ final pending found n at) where
-  pub room_here : Room rows pending n at
-  room_here = room_on room way.kept way.low
+    {rows : List Row} {context : Bool} {row : ℕ} {base : List ℕ} {final : Found} {pending : List ℕ} {found : Found} {at : ℕ}
+    (room : length base + row < length rows) (way : UnderWay rows context row base final pending found at) where
+  pub within_here : length pending + at < length rows
+  within_here = omega (arith, way.low, room)
 
-  pub place : n < most_rows
-  place = omega (arith, room_here.within, room.sound.few)
+  long : length pending ≡ length base + length way.rest
+  long = ap length way.split ∙ length-append base way.rest
 
-  in_array : n < length pending
-  in_array = omega (arith, place, room_here.long)
-
-  pub within_here : at < length rows
-  within_here = omega (arith, room_here.within)
+  pub at_most : at ≤ row
+  at_most = omega (arith, way.low, long)
 
   -- the row at hand is a sequence: its second part is pending, and its first is at hand
-  module _ {here : Row} (read : here ≡ row_at rows at) (kind : here.kind ≡ Kind.Sequence) where
+  module _ {here : Row} (sound : Sound rows) (read : here ≡ row_at rows at) (kind : here.kind ≡ Kind.Sequence) where
     both :
         (stmt_at rows at ≡ sequence (stmt_at rows here.p) (stmt_at rows here.q)) × Below rows at here.p × Below rows at here.q
-    both = is_sequence rows room.sound at within_here here read kind
+    both = is_sequence rows sound at (omega (arith, within_here)) here read kind
+
+    pub place : length pending < most_rows
+    place = omega (arith, within_here, sound.few)
 
     pub second_small : here.q < most_rows
-    second_small = omega (arith, both.2.lower, within_here, room.sound.few)
+    second_small = omega (arith, both.2.lower, within_here, sound.few)
 
-    pub way_apart : UnderWay rows context base row pending₀ final (set pending n here.q) found (n + 1) here.p
-    way_apart = record {
-      higher = omega (arith, way.higher);
-      low = omega (arith, way.low, both.1.lower);
-      lows =
-          below_more (λ (i : ℕ). base ≤ i → i + get_or (set pending n here.q) i 0 ≤ base + row) n
-          (λ i g h. omega (arith, way.lows i g h, get_or-set_other pending n i here.q 0 (λ e. omega arith)))
-          (λ h. omega (arith, way.low, both.2.lower, get_or-set_same pending n here.q 0 in_array));
-      kept = kept_on way.kept way.higher (record { long = length-set pending n here.q; below = λ i h. get_or-set_other pending n i here.q 0 (λ e. omega arith) });
-      rest =
-          over_push (taking rows context) base pending n here.q (taking rows context here.p found) in_array way.higher
-          ∙ ap (over (taking rows context) pending base (n - base)) (sym (taking_sequence rows context at here.p here.q found both.0))
-          ∙ way.rest;
+    pub way_apart : {pending' : List ℕ} → pending' ≡ pending ++ here.q ∷ [] → UnderWay rows context row base final pending' found here.p
+    way_apart {pending'} e = record {
+      rest = way.rest ++ here.q ∷ [];
+      split = e ∙ ap (λ (l : List ℕ). l ++ here.q ∷ []) way.split ∙ append_assoc base way.rest (here.q ∷ []);
+      low = omega (arith, way.low, both.1.lower, ap length e, length-append pending (here.q ∷ []));
+      lows = low_more row 0 way.rest here.q way.lows (omega (arith, way.low, both.2.lower, long));
+      goes =
+          taking_last rows context way.rest here.q (taking rows context here.p found)
+          ∙ ap (taking_all rows context way.rest) (sym (taking_sequence rows context at here.p here.q found both.0))
+          ∙ way.goes;
     }
 
-    pub apart_less : left rows (set pending n here.q) base (n + 1) here.p < left rows pending base n at
-    unfolding left weighing parts
-    apart_less =
-        subst (λ (x : ℕ). x < left rows pending base n at)
-        (sym (over_push (weighing rows) base pending n here.q (weighing rows here.p 0) in_array way.higher))
-        (over_less rows pending base (n - base) (omega (arith, ap parts both.0)))
+    pub apart_less : {pending' : List ℕ} → pending' ≡ pending ++ here.q ∷ [] → left rows base pending' here.p < left rows base pending at
+    unfolding parts
+    apart_less {pending'} e =
+        omega (
+          arith,
+          ap (λ (l : List ℕ). left rows base l here.p) (e ∙ ap (λ (l : List ℕ). l ++ here.q ∷ []) way.split ∙ append_assoc base way.rest (here.q ∷ [])),
+          left_above rows base (way.rest ++ here.q ∷ []) here.p,
+          weights_last rows way.rest here.q,
+          ap (λ (l : List ℕ). left rows base l at) way.split,
+          left_above rows base way.rest at,
+          ap parts both.0,
+        )
 
-  -- the row at hand was walked
-  module _ {pending' : List ℕ} {found' : Found} (kept : Kept pending pending' n) (taken : found' ≡ taking rows context at found) where
-    pub kept_here : Kept pending₀ pending' base
-    kept_here = kept_on way.kept way.higher kept
+  -- no other row is pending than that at hand
+  module _ (last : length pending ≡ length base) where
+    nothing : way.rest ≡ []
+    nothing = none_left way.rest (omega (arith, last, long))
 
-    same_rest : {A : Type 0} (step : ℕ → A → A) (a : A) → over step pending' base (n - base) a ≡ over step pending base (n - base) a
-    same_rest step a = over_kept step base pending pending' (n - base) a (λ i h. kept.below i (omega (arith, way.higher)))
+    pub kept_end : pending ≡ base
+    kept_end = way.split ∙ ap (λ (l : List ℕ). base ++ l) nothing ∙ append-nil base
 
-    low_on : (i : ℕ) → i < n → base ≤ i → i + get_or pending' i 0 ≤ base + row
-    low_on i g h = omega (arith, way.lows i g h, kept.below i g)
+    pub way_end : {found' : Found} → found' ≡ taking rows context at found → found' ≡ final
+    way_end taken = taken ∙ ap (λ (l : List ℕ). taking_all rows context l (taking rows context at found)) (sym nothing) ∙ way.goes
 
-    -- and was the last
-    pub way_end : n ≡ base → found' ≡ final
-    unfolding over
-    way_end last =
-        let none : n - base ≡ 0 = omega arith in
-        taken ∙ sym (ap (λ (k : ℕ). over (taking rows context) pending base k (taking rows context at found)) none) ∙ way.rest
+  -- another row is pending than that at hand
+  module _ (more : length pending ≡ length base → ⊥) where
+    pub some_pending : 0 < length pending
+    some_pending = omega (arith, more, long)
 
-    -- and another row is pending
-    module _ (more : n ≡ base → ⊥) where
-      one : n ≡ n - 1 + 1
-      one = omega (arith, way.higher)
+    top : Ended way.rest
+    top = some_left way.rest (λ e. more (omega (arith, long, e)))
 
-      pub way_on : UnderWay rows context base row pending₀ final pending' found' (n - 1) (get_or pending' (n - 1) 0)
-      way_on = record {
-        higher = omega (arith, way.higher);
-        low = low_on (n - 1) (omega (arith, way.higher)) (omega (arith, way.higher));
-        lows = λ i g h. low_on i (omega arith) h;
-        kept = kept_here;
-        rest =
-            ap (λ (f : Found). over (taking rows context) pending' base (n - 1 - base) (taking rows context (get_or pending' (n - 1) 0) f)) taken
-            ∙ sym (over_pop (taking rows context) base pending' (n - 1) n (taking rows context at found) one (omega (arith, way.higher)))
-            ∙ same_rest (taking rows context) (taking rows context at found)
-            ∙ way.rest;
+    lower_rows : Low row 0 top.front × (0 + length top.front + top.last ≤ row)
+    lower_rows = low_less row 0 top.front top.last (rw top.is at way.lows)
+
+    module _ (pending' : List ℕ) (next : ℕ) (popped : pending ≡ pending' ++ next ∷ []) where
+      parted : (pending' ≡ base ++ top.front) × (next ≡ top.last)
+      parted =
+          same_end pending' (base ++ top.front) next top.last
+          (sym popped ∙ way.split ∙ ap (λ (l : List ℕ). base ++ l) top.is ∙ sym (append_assoc base top.front (top.last ∷ [])))
+
+      pub way_on : {found' : Found} → found' ≡ taking rows context at found → UnderWay rows context row base final pending' found' next
+      way_on {found'} taken = record {
+        rest = top.front;
+        split = parted.0;
+        low = omega (arith, lower_rows.1, parted.1, ap length parted.0, length-append base top.front);
+        lows = lower_rows.0;
+        goes =
+            ap₂ (λ (n : ℕ) (f : Found). taking_all rows context top.front (taking rows context n f)) parted.1 taken
+            ∙ sym (taking_last rows context top.front top.last (taking rows context at found))
+            ∙ ap (λ (l : List ℕ). taking_all rows context l (taking rows context at found)) (sym top.is)
+            ∙ way.goes;
       }
 
-      pub on_less : left rows pending' base (n - 1) (get_or pending' (n - 1) 0) < left rows pending base n at
-      unfolding left weighing
+      pub on_less : left rows base pending' next < left rows base pending at
       on_less =
-          subst (λ (x : ℕ). left rows pending' base (n - 1) (get_or pending' (n - 1) 0) < x)
-          (sym (over_pop (weighing rows) base pending' (n - 1) n (weighing rows at 0) one (omega (arith, way.higher)))
-          ∙ same_rest (weighing rows) (weighing rows at 0))
-          (over_less rows pending' base (n - 1 - base) (omega arith))
+          omega (
+            arith,
+            ap₂ (λ (l : List ℕ) (n : ℕ). left rows base l n) parted.0 parted.1,
+            left_above rows base top.front top.last,
+            ap (λ (l : List ℕ). left rows base l at) way.split,
+            left_above rows base way.rest at,
+            ap (weights rows) top.is,
+            weights_last rows top.front top.last,
+          )
+
+-- ---- what a part leaves pending
+
+module _ {before after : List ℕ} (kept : after ≡ before) where
+  -- it is longer than it was at the base
+  pub more_pending : (base : List ℕ) {n m : ℕ} → (n ≡ m → ⊥) → n ≡ length after → m ≡ length base → length before ≡ length base → ⊥
+  more_pending base other here there e = other (omega (arith, here, there, e, ap length kept))
+
+  -- what was popped is the last that was pending
+  pub popped_is : (left : List ℕ) {x y : ℕ} → after ≡ left ++ x ∷ [] → y ≡ x → before ≡ left ++ y ∷ []
+  popped_is left popped same = sym kept ∙ popped ∙ ap (λ (n : ℕ). left ++ n ∷ []) (sym same)

@@ -1,6 +1,7 @@
 // The static level check: whether an output of a recipe may be denied, told before the recipe runs.
 #![tactic(auto)]
 
+mod pending;
 mod provisional;
 mod walk;
 
@@ -10,18 +11,19 @@ ghost use Rattle.rules.specs.declared.Checked.{Checked};
 ghost use Rattle.levels.specs.Found.{checked_at};
 
 use crate::walk::walk;
-use rules::{Advice, Checked, Judged, Marks, ROW_WORDS};
+use rules::{Advice, Checked, Marks, ROW_WORDS};
 use table::judge;
+use table::judged::JudgedTable;
 
-// What is said where the lowest failing row and 1 is known, or 0 for none.
+// What is said of the lowest failing row, where there is one.
 // 8.7: The check passes where no output fails, and else fails at the lowest row that does; ..
-fn checked_at(lowest: u32) -> Checked
+fn checked_at(lowest: Option<u32>) -> Checked
     ensures { result ≡ checked_at lowest }
 {
-    if lowest == 0 {
-        return Checked::Pass;
+    match lowest {
+        None => Checked::Pass,
+        Some(row) => Checked::Fail(row),
     }
-    Checked::Fail(lowest - 1)
 }
 
 // Checks the recipe of a table from a mark set, in a settled context: pass, or fail with the lowest failing row, and the
@@ -29,15 +31,14 @@ fn checked_at(lowest: u32) -> Checked
 pub fn check(table: &[u32], marks: Marks) -> Advice
     ensures { CheckAnswers table.now marks result }
 {
-    let judged = judge(table);
-    if let Judged::Refused { number, row } = judged {
+    if let Err(refusal) = judge(table) {
         return Advice {
-            checked: Checked::Refused { number, row },
+            checked: Checked::Refused(refusal),
             marks,
         };
     }
     let last = (table.len() / ROW_WORDS - 1) as u32;
-    let found = walk(table, last, false, marks);
+    let found = walk(&JudgedTable::new(table), last, false, marks);
     Advice {
         checked: checked_at(found.lowest),
         marks: found.marks,

@@ -1,44 +1,15 @@
 -- Laws of lines that are read: a key byte by byte, a field, fields, the end and the range of a line.
-use Prim.Native.Nat.{ℕ, ◌+◌, ◌≤◌, ◌<◌}
+use Prim.Native.Nat.{ℕ, ◌≤◌, ◌<◌}
 use native.Mathlib.Omega.{arith}
-use mathlib.Core.Bool.{Bool, true, false, cond, ◌&&◌}
+use mathlib.Core.Bool.{Bool, true, false, ◌&&◌}
 use mathlib.Core.List.{List, [], ◌∷◌, ◌++◌}
-use mathlib.Core.Path.{◌≡◌, refl, sym, ap, ap₂, ◌∙◌}
-use lib.Dec.{leb, eqb}
-use lib.ListN.{length, get_or, drop, drop_of_length-le}
-use borrow.Author.Tests.{eq-eqb, ne_eqb, leb-true, le-leb, lt-leb}
+use mathlib.Core.Path.{◌≡◌, refl, sym, ap, ◌∙◌}
+use lib.Dec.{leb}
+use borrow.Author.Tests.{leb-true, le-leb, lt-leb}
 use Rattle.lines.specs.Lines.{line_end, After, absent, after, after_key, number_after, field, Fields, no_fields, fields, put, onward, fields_of, line, faulty, in_range, closed, ended, line_of}
 use Rattle.lines.specs.Limits.{lacks_form, out_of_range}
 use Rattle.lines.specs.Numbers.{no_number, number, number_at}
-use Rattle.lines.proofs.NumberLaws.{drop_next, both_true}
-
--- ---- the key from its byte j on, at the text from its place i on
-
-key_both : (key text : List ℕ) (j i : ℕ) → j < length key → i < length text
-    → after_key (drop j key) (drop i text)
-    ≡ cond (eqb (get_or key j 0) (get_or text i 0)) (after_key (drop (j + 1) key) (drop (i + 1) text)) absent
-unfolding after_key
-key_both key text j i hj hi = ap₂ after_key (drop_next key j hj) (drop_next text i hi)
-
-pub key_again : (key text : List ℕ) (j i : ℕ) → j < length key → i < length text → get_or key j 0 ≡ get_or text i 0
-    → after_key (drop (j + 1) key) (drop (i + 1) text) ≡ after_key (drop j key) (drop i text)
-key_again key text j i hj hi e =
-    sym (ap (λ (b : Bool). cond b (after_key (drop (j + 1) key) (drop (i + 1) text)) absent) (eq-eqb (get_or key j 0) (get_or text i 0) e))
-    ∙ sym (key_both key text j i hj hi)
-
-pub key_differs : (key text : List ℕ) (j i : ℕ) → j < length key → i < length text → (get_or key j 0 ≡ get_or text i 0 → ⊥)
-    → absent ≡ after_key (drop j key) (drop i text)
-key_differs key text j i hj hi ne =
-    sym (ap (λ (b : Bool). cond b (after_key (drop (j + 1) key) (drop (i + 1) text)) absent) (ne_eqb (get_or key j 0) (get_or text i 0) ne))
-    ∙ sym (key_both key text j i hj hi)
-
-pub key_short : (key text : List ℕ) (j i : ℕ) → j < length key → length text ≤ i → absent ≡ after_key (drop j key) (drop i text)
-unfolding after_key
-key_short key text j i hj hi = sym (ap₂ after_key (drop_next key j hj) (drop_of_length-le text hi))
-
-pub key_end : (key text : List ℕ) (j i : ℕ) → length key ≤ j → after (drop i text) ≡ after_key (drop j key) (drop i text)
-unfolding after_key
-key_end key text j i hj = sym (ap (λ (k : List ℕ). after_key k (drop i text)) (drop_of_length-le key hj))
+use Rattle.lines.proofs.NumberLaws.{both_true}
 
 -- ---- a field
 

@@ -2,11 +2,12 @@
 use Prim.Native.Nat.{ℕ, ◌+◌, ◌-◌, ◌/◌, ◌^◌, ◌≤◌, ◌<◌}
 use native.Mathlib.Omega.{arith}
 use mathlib.Core.List.{List, [], ◌∷◌}
-use mathlib.Core.Path.{◌≡◌, refl, sym, ap, ap₂, ◌∙◌, subst}
-use lib.ListN.{length, set, length-set}
+use mathlib.Core.Path.{◌≡◌, refl, sym, ap, ap₂, ◌∙◌, subst, subst₂}
+use lib.ListN.{length, set, replicate, length-set}
 use Rattle.rules.specs.declared.Answer.{Answer}
 use Rattle.rules.specs.declared.Ended.{Ended}
-use Rattle.rules.specs.declared.Judged.{Judged}
+use Rattle.rules.specs.declared.Refusal.{Refusal}
+use Rattle.rules.specs.Judged.{Judged}
 use Rattle.rules.specs.Limits.{width, most_trace_words, most_nesting}
 use Rattle.rules.specs.Rows.{rows_of, row_at}
 use Rattle.rules.specs.Trees.{recipe}
@@ -14,18 +15,18 @@ use Rattle.rules.specs.Judging.{judge}
 use Rattle.rules.specs.Running.{Item, statement, State, state, run}
 use Rattle.rules.specs.Bounds.{most_pending, Bounds}
 use Rattle.rules.specs.Sound.{Sound}
-use Rattle.rules.specs.Answers.{Whole, Inputs, inputs, said_of_run, because_of, reached, answered, answer, trace_after, told_of, telling, Tells, RunAnswers, terms_of}
+use Rattle.rules.specs.Answers.{Whole, Inputs, inputs, number_of, said_of_run, because_of, reached, answered, answer, trace_after, told_of, telling, Tells, RunAnswers, terms_of}
 use Rattle.rules.proofs.RowLaws.{statement_left}
 use Rattle.rules.proofs.JudgeLaws.{accepted_sound, accepted_count}
 use Rattle.rules.proofs.TreeLaws.{recipe_law}
 use Rattle.rules.proofs.BoundLaws.{bounds_start}
 use Rattle.rules.proofs.AnswerLaws.{start_of, shown_law, turned_away, answer_ran, telling_law, trace_kept}
-use Rattle.step.specs.declared.Held.{Held}
-use Rattle.step.specs.Denoted.{items_of, sets_of, records_of, arrays, state_of, Entry, Holds}
+use Rattle.step.specs.declared.Machine.{Machine}
+use Rattle.step.specs.Denoted.{items_of, sets_of, records_of, Held, Arrays, arrays, arrays_of, held_of, state_of, Entry, Holds}
+use Rattle.step.specs.Turns.{Starts}
 use Rattle.step.proofs.ArrayLaws.{item_row, items_push, items_none, entries_push, sets_none, records_none, records_length, trace_law}
 use Rattle.step.proofs.StepLaws.{entry_of}
-use Rattle.monitor.specs.declared.Reached.{Reached}
-use Rattle.monitor.specs.Going.{Went}
+use Rattle.monitor.specs.Going.{Reached, Went}
 
 -- what the trace and this end show
 abbrev shown : List ℕ → Reached → Whole
@@ -116,6 +117,37 @@ ran_told i e p h e' p' t' r went w is a ea = record {
       trace_law i.trace t' r.held.records went.holds.written went.kept ∙ ap (λ (x : Whole). trace_after x.records i.trace) (sym is);
 }
 
+-- ---- on a machine
+
+module _ (words m : List ℕ) (l : ℕ) (ok : judge words ≡ Judged.Accepted) (t : List ℕ) (s : Machine) (starts : Starts m l (length words / 4 - 1) s) where
+  abbrev as_started : Arrays
+  as_started = arrays m (set (replicate most_pending 0) 0 (length words / 4)) (replicate most_nesting 0) t
+
+  arrays_start : ◌≡◌ {A = Arrays} (arrays_of s t) as_started
+  arrays_start =
+      let count : length words / 4 - 1 + 1 ≡ length words / 4 = omega (arith, accepted_count words ok, (accepted_sound words ok).some) in
+      λ i. arrays (starts.words i) ((starts.first ∙ ap (set (replicate most_pending 0) 0) count) i) (starts.sets i) t
+
+  held_start : ◌≡◌ {A = Held} (held_of s) (start_held l)
+  held_start = λ i. record { pending = starts.one i; pile = starts.no_sets i; records = starts.no_records i; marks = starts.marks i }
+
+  pub machine_holds : length m ≡ width → l < 2 ^ width → Holds (rows_of words) (arrays_of s t) (held_of s)
+  machine_holds whole small =
+      subst₂ (Holds (rows_of words)) (sym arrays_start) (sym held_start)
+      (start_holds words m l ok (replicate most_pending 0) (replicate most_nesting 0) t refl _ refl whole small refl)
+
+  -- what a call answers and leaves, from how it went
+  pub machine_told :
+      (budget : ℕ) (e' p' t' : List ℕ) (r : Reached) → Went (rows_of words) (arrays_of s t) (held_of s) budget e' p' t' r → (a : Answer)
+      → a ≡ record { ended = r.ended; steps = r.steps; records = r.held.records; memory = r.memory; marks = r.held.marks }
+      → Tells (answered Judged.Accepted (inputs words m l budget t)) t a t'
+  machine_told budget e' p' t' r went a ea =
+      let went' : Went (rows_of words) as_started (start_held l) budget e' p' t' r =
+      subst₂ (λ (x : Arrays) (h : Held). Went (rows_of words) x h budget e' p' t' r) arrays_start held_start went
+      in
+      ran_told (inputs words m l budget t) _ _ _ _ _ _ r went' _
+      (ran_answer words m l ok (replicate most_pending 0) (replicate most_nesting 0) t refl _ refl budget _ _ _ r went') a ea
+
 -- a call that ran
 pub run_told :
     (i : Inputs) → judge i.words ≡ Judged.Accepted → length i.trace ≤ most_trace_words → (a : Answer) (after : List ℕ)
@@ -124,10 +156,10 @@ run_told i ok fits a after told = subst (λ (w : Whole). Tells w i.trace a after
 
 -- a refused call
 pub away_told :
-    (i : Inputs) (number row : ℕ) → answer i ≡ turned_away number row i → (a : Answer)
-    → a ≡ record { ended = Ended.Refused number row; steps = 0; records = 0; memory = record { words = i.memory }; marks = i.marks }
+    (i : Inputs) (refusal : Refusal) → answer i ≡ turned_away (number_of refusal.fault) refusal.row i → (a : Answer)
+    → a ≡ record { ended = Ended.Refused refusal; steps = 0; records = 0; memory = record { words = i.memory }; marks = i.marks }
     → RunAnswers i a i.trace
-away_told i number row is a ea = record {
-  told = ap told_of ea ∙ telling_law _ (turned_away number row i) refl refl refl refl refl refl ∙ ap telling (sym is);
+away_told i refusal is a ea = record {
+  told = ap told_of ea ∙ telling_law _ (turned_away (number_of refusal.fault) refusal.row i) refl refl refl refl refl refl ∙ ap telling (sym is);
   after_trace = sym (trace_kept i.trace) ∙ ap (λ (x : Whole). trace_after x.records i.trace) (sym is);
 }

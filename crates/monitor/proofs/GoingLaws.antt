@@ -3,18 +3,20 @@ use Prim.Native.Nat.{ℕ, suc, ◌+◌, ◌-◌}
 use native.Mathlib.Omega.{arith}
 use mathlib.Core.List.{List}
 use mathlib.Core.Logic.{◌≢◌}
-use mathlib.Core.Path.{◌≡◌, sym, ap, ◌∙◌, subst}
+use mathlib.Core.Path.{◌≡◌, sym, ap, ◌∙◌, subst, subst₂}
 use lib.ListN.{length, get_or}
+use Rattle.std.specs.Prelude.{Err}
 use Rattle.rules.specs.declared.Row.{Row}
 use Rattle.rules.specs.declared.Ended.{Ended}
 use Rattle.rules.specs.Running.{State, Terms, Attempt, denied, roomless, attempted, outcome, run}
 use Rattle.rules.specs.Answers.{terms_of}
 use Rattle.rules.proofs.RunLaws.{run_idle, run_out, run_taken, run_stopped, run_full}
-use Rattle.step.specs.declared.Held.{Held}
-use Rattle.step.specs.Denoted.{item_of, items_of, Arrays, state_of, Holds}
-use Rattle.step.specs.Turns.{Kept, Goes, Stays}
+use Rattle.step.specs.declared.Halt.{Halt}
+use Rattle.step.specs.declared.Machine.{Machine}
+use Rattle.step.specs.Denoted.{item_of, items_of, Held, Arrays, arrays_of, held_of, state_of, Holds}
+use Rattle.step.specs.Turns.{Kept, Goes, Stays, turn_of, ended_of, Turned}
 use Rattle.step.proofs.ArrayLaws.{items_none, items_pop, kept_same, kept_then}
-use Rattle.monitor.specs.Going.{Went, UnderWay}
+use Rattle.monitor.specs.Going.{reached_by, Went, UnderWay}
 
 module _ (rows : List Row) (a₀ : Arrays) (h₀ : Held) (budget : ℕ) where
   abbrev T : Terms
@@ -91,6 +93,20 @@ module _ (rows : List Row) (a₀ : Arrays) (h₀ : Held) (budget : ℕ) where
     full_here other row a' x =
         ends_here (Ended.NoRoom row) (roomless row) a' x
         (one_more other ∙ run_full T (budget - (steps + 1)) (state_of rows a h steps) row (same_room _ _ (x.step steps)))
+
+    -- .. on a machine, by how the step halts
+    pub halts_here :
+        steps ≢ budget → (halt : Halt) (s' : Machine) (t' : List ℕ) (h' : Held) → Turned rows a h (arrays_of s' t') (turn_of {A = Unit {0}} (Err halt) h')
+        → held_of s' ≡ h → (ended : Ended) → ended ≡ ended_of halt
+        → Went rows a₀ h₀ budget s'.pending.items s'.pile.items t' (reached_by (record { ended = ended; steps = steps }) s')
+    halts_here other halt s' t' h' x same ended is =
+        subst₂ (λ (d : Ended) (k : Held). Went rows a₀ h₀ budget s'.pending.items s'.pile.items t' (record { ended = d; steps = steps; held = k; memory = record { words = s'.words } }))
+        (sym is) (sym same) (by halt x)
+      where
+        by : (halt : Halt) → Turned rows a h (arrays_of s' t') (turn_of {A = Unit {0}} (Err halt) h')
+            → Went rows a₀ h₀ budget s'.pending.items s'.pile.items t' (record { ended = ended_of halt; steps = steps; held = h; memory = record { words = s'.words } })
+        by (Halt.Stopped row because) x = stopped_here other row because (arrays_of s' t') x
+        by (Halt.NoRoom row) x = full_here other row (arrays_of s' t') x
 
     pub goes_on : steps ≢ budget → (a' : Arrays) (h' : Held) → Goes rows a h a' h' → UnderWay rows a₀ h₀ budget a' h' (steps + 1)
     goes_on other a' h' x = record {

@@ -3,10 +3,8 @@ use Rattle.std.specs.Prelude.{ℕ, List, ◌≡◌, length}
 use Rattle.rules.specs.declared.Row.{Row}
 use Rattle.rules.specs.Running.{State, state, blank, run}
 use Rattle.rules.specs.Answers.{terms_of}
-use Rattle.step.specs.declared.Held.{Held}
-use Rattle.step.specs.Denoted.{Arrays, state_of, Holds}
-use Rattle.monitor.specs.declared.Reached.{Reached}
-use Rattle.monitor.specs.Going.{left_in, Went}
+use Rattle.step.specs.Denoted.{Held, Arrays, state_of, Holds}
+use Rattle.monitor.specs.Going.{Reached, left_in, Went}
 
 -- the state that a run reached, with nothing to show yet
 abbrev pub afresh : State → State

@@ -3,17 +3,29 @@ use Rattle.std.specs.Prelude.{ℕ, ◌-◌, ◌≤◌, List, ◌≡◌, length}
 use Rattle.rules.specs.declared.Answer.{Answer}
 use Rattle.rules.specs.declared.Ended.{Ended}
 use Rattle.rules.specs.declared.Memory.{Memory}
+use Rattle.rules.specs.declared.Refusal.{Refusal}
 use Rattle.rules.specs.declared.Row.{Row}
 use Rattle.rules.specs.Running.{outcome, run}
 use Rattle.rules.specs.Answers.{terms_of}
-use Rattle.step.specs.declared.Held.{Held}
-use Rattle.step.specs.Denoted.{Arrays, arrays, state_of, Holds}
+use Rattle.step.specs.declared.Machine.{Machine}
+use Rattle.step.specs.Denoted.{Held, Arrays, arrays, held_of, state_of, Holds}
 use Rattle.step.specs.Turns.{Kept}
-use Rattle.monitor.specs.declared.Reached.{Reached}
+use Rattle.monitor.specs.declared.Finish.{Finish}
 
 -- what a refused run answers: 0 steps and 0 records, memory and marks as given
-abbrev pub turned_away : ℕ → ℕ → Memory → ℕ → Answer
-turned_away number row memory marks = record { ended = Ended.Refused number row; steps = 0; records = 0; memory = memory; marks = marks }
+abbrev pub turned_away : Refusal → Memory → ℕ → Answer
+turned_away refusal memory marks = record { ended = Ended.Refused refusal; steps = 0; records = 0; memory = memory; marks = marks }
+
+-- How a run ended, and the state that it has reached: the memory, and how much of each array the rest takes.
+pub record Reached : Type 0 where
+  pub ended : Ended
+  pub steps : ℕ
+  pub held : Held
+  pub memory : Memory
+
+-- .. as the code says it, with the machine that is left
+abbrev pub reached_by : Finish → Machine → Reached
+reached_by finish s = record { ended = finish.ended; steps = finish.steps; held = held_of s; memory = record { words = s.words } }
 
 -- the arrays afterwards
 abbrev pub left_in : Reached → List ℕ → List ℕ → List ℕ → Arrays

@@ -1,7 +1,7 @@
 // Reads the decimal number at a place of a text.
 #![tactic(auto)]
 
-ghost use Rattle.std.specs.Prelude.{◌≡◌, true, ◌+◌, ◌-◌, ◌*◌, ◌≤◌, min, length, drop};
+ghost use Rattle.std.specs.Prelude.{◌≡◌, true, ◌+◌, ◌-◌, ◌*◌, ◌≤◌, min, length, drop, Some};
 ghost use Rattle.lines.specs.Numbers.{zero_byte, beyond, is_digit, digits_on, number_at};
 ghost use Rattle.numbers.specs.Read.{field_said, next_of};
 
@@ -10,70 +10,52 @@ use rules::WORD_VALUES;
 // The most that a word is, as `most_word` of `lines` has it.
 pub const MOST_WORD: u64 = WORD_VALUES - 1;
 
-// The number at a place, and the place after it; a number over 4,294,967,295 is 4,294,967,296.
-#[derive(Drop)]
-pub enum Field {
-    Nothing,
-    Number { value: u64, next: usize },
+// A value that was read at a place of a text, and the place after it.
+#[derive(Clone, Copy)]
+pub struct Parsed<T> {
+    pub value: T,
+    pub next: usize,
 }
 
-// Whether a byte is a digit.
-fn is_digit(byte: u8) -> bool
-    ensures { result ≡ is_digit byte }
-{
-    b'0' <= byte && byte <= b'9'
-}
-
-// The value of some digits with one digit more.
+// The value of some digits with one digit more; over 4,294,967,295 it is 4,294,967,296.
 fn grown(value: u64, byte: u8) -> u64
     requires { (value ≤ beyond) × (is_digit byte ≡ true) }
     ensures { result ≡ min (value * 10 + (byte - zero_byte)) beyond }
 {
-    let more = value * 10 + (byte - b'0') as u64;
-    if more <= MOST_WORD {
-        more
-    } else {
-        MOST_WORD + 1
-    }
+    (value * 10 + u64::from(byte - b'0')).min(MOST_WORD + 1)
 }
 
-// The number whose first digits came to `first` and whose other digits start at `from`.
-fn digits_on(text: &[u8], from: usize, first: u64) -> Field
-    requires { (first ≤ beyond) × (from ≤ length text.now) }
-    ensures { (field_said text.now result ≡ digits_on (drop from text.now) first)
-        × (next_of result ≤ length text.now) }
+// The number whose digits start at a place.
+fn digits_on(text: &[u8], at: usize) -> Parsed<u64>
+    requires { at ≤ length text.now }
+    ensures { (field_said text.now (Some result) ≡ digits_on (drop at text.now) 0)
+        × (result.next ≤ length text.now) }
 {
-    let mut value = first;
-    let mut i = from;
-    while i < text.len() {
-        let byte = text[i];
-        if is_digit(byte) {
-            value = grown(value, byte);
-            i += 1;
-        } else {
-            return Field::Number { value, next: i };
+    let mut value = 0;
+    for next in at..text.len() {
+        let byte = text[next];
+        if !byte.is_ascii_digit() {
+            return Parsed { value, next };
         }
+        value = grown(value, byte);
     }
-    Field::Number { value, next: i }
+    Parsed {
+        value,
+        next: text.len(),
+    }
 }
 
-// The number at a place.
-pub fn number_at(text: &[u8], at: usize) -> Field
+// The number at a place; one over 4,294,967,295 is 4,294,967,296.
+pub fn number_at(text: &[u8], at: usize) -> Option<Parsed<u64>>
     ensures { (field_said text.now result ≡ number_at (drop at text.now))
         × (next_of result ≤ length text.now) }
 {
-    if text.len() <= at {
-        return Field::Nothing;
-    }
-    let byte = text[at];
-    if byte == b'0' {
-        return Field::Number {
+    match text.get(at)? {
+        b'0' => Some(Parsed {
             value: 0,
             next: at + 1,
-        };
+        }),
+        b'1'..=b'9' => Some(digits_on(text, at)),
+        _ => None,
     }
-    if is_digit(byte) {
-        return digits_on(text, at + 1, grown(0, byte));
-    }
-    Field::Nothing
 }

@@ -17,18 +17,19 @@ use Rattle.lines.proofs.NumberLaws.{both_true}
 use Rattle.language.specs.Words.{is_blank, is_letter, is_joining, joins}
 use Rattle.language.specs.Tokens as word
 use Rattle.language.specs.Tokens.{Token, Spelling, fixed, same, whole_number, counted, among, token_of}
-use Rattle.language.specs.Tables.{operator_number}
+use Rattle.rules.specs.Trees.{operator_number}
 use Rattle.language.proofs.Unambiguous.{clash}
-use Rattle.reader.specs.Atoms.{Atom, whole_of, whole_from, atom_of, sign_number, NumeralTo, NumberTo, AtomIs}
+use Rattle.reader.specs.Atoms.{Atom, whole_of, whole_from, atom_of, sign_of, NumeralTo, NumberTo, AtomIs, SignAt}
 use Rattle.reader.specs.Machine.{tag, is_word, is_variable, is_numeral}
 use Rattle.reader.specs.Atoms as atom
-use Rattle.reader.specs.declared.atoms.Numeral.{Numeral}
+use Rattle.std.specs.Prelude.{Option, Some, None}
+use Rattle.numbers.specs.declared.Parsed.{Parsed}
 use Rattle.spans.specs.Cut.{part, Cut, JoinedTo}
 use Rattle.spans.specs.declared.Span.{Span}
-use Rattle.spans.proofs.WordLaws.{part_next, joins_not, cut_one, cut_once, cut_joined, cut_some}
+use Rattle.spans.proofs.WordLaws.{part_next, part_one, joins_not, cut_one, cut_once, cut_joined, cut_some}
 use Rattle.reader.specs.Statements.{all_joining}
 use Rattle.reader.proofs.KeyLaws.{spelling, same_is}
-use Rattle.reader.proofs.StartLaws.{all_of}
+use Rattle.reader.proofs.StartLaws.{all_of, same_self, word_short, word_unlike}
 use Rattle.reader.proofs.SpellLaws.{spells_sign}
 
 -- ---- a number that stands from a place on to the end of a word
@@ -335,22 +336,22 @@ module _ {text : List ℕ} {at : ℕ} (inside : at ≤ length text) (shown : at 
       by i h k true q = ap (λ (n : ℕ). is_joining (get_or text n 0)) (eqb-true i at q) ∙ joining
       by i h k false q = let ne = eqb-false i at q in (cut_joined room joining c).1.run i h (omega arith)
 
-  pub variable_told : at < length text → get_or text at 0 ≡ 118 → (r : Numeral) → NumberTo text (at + 1) (width - 1) r
+  pub variable_told : at < length text → get_or text at 0 ≡ 118 → (r : Option (Parsed ℕ)) → NumberTo text (at + 1) (width - 1) r
       → AtomIs atom.variable said_of w.end r
   variable_told room v r number-to = by r (number-to w.end (cut_joined room (ap is_joining v ∙ v_joining) c).1)
     where
-      by : (r : Numeral) → NumeralTo text (at + 1) (width - 1) w.end r → AtomIs atom.variable said_of w.end r
-      by Numeral.Nothing none = λ n e. not_told atom.variable _ n (λ q. clash (cc)) none (as_variable room v _ refl ∙ e)
-      by (Numeral.Is value next) (end, few, is) =
-          (end, sym (as_variable room v value (sym is)) ∙ sym (told_some atom.variable value (λ e. omega arith)))
+      by : (r : Option (Parsed ℕ)) → NumeralTo text (at + 1) (width - 1) w.end r → AtomIs atom.variable said_of w.end r
+      by None none = λ n e. not_told atom.variable _ n (λ q. clash (cc)) none (as_variable room v _ refl ∙ e)
+      by (Some read) (end, few, is) =
+          (end, sym (as_variable room v read.value (sym is)) ∙ sym (told_some atom.variable read.value (λ e. omega arith)))
 
   -- no number stands there, whatever is said
-  unnumbered : (n : ℕ) (r : Numeral) → NumeralTo text at most_word n r → whole_from most_word (part text at n) ≡ beyond
+  unnumbered : (n : ℕ) (r : Option (Parsed ℕ)) → NumeralTo text at most_word n r → whole_from most_word (part text at n) ≡ beyond
       → ((v : ℕ) → said_of ≡ atom.constant v → ⊥) → AtomIs atom.constant said_of w.end r
-  unnumbered n Numeral.Nothing told_number none other = other
-  unnumbered n (Numeral.Is value next) (end, few, is) none other = absurd (omega (arith, none, is))
+  unnumbered n None told_number none other = other
+  unnumbered n (Some read) (end, few, is) none other = absurd (omega (arith, none, is))
 
-  pub constant_told : (r : Numeral) → NumberTo text at most_word r → AtomIs atom.constant said_of w.end r
+  pub constant_told : (r : Option (Parsed ℕ)) → NumberTo text at most_word r → AtomIs atom.constant said_of w.end r
   constant_told r number-to = by (ltb at (length text)) refl
     where
       none_there : (at < length text → is_joining (get_or text at 0) ≡ false) → NumeralTo text at most_word at r
@@ -378,12 +379,12 @@ module _ {text : List ℕ} {at : ℕ} (inside : at ≤ length text) (shown : at 
           part_at : part text at w.end ≡ get_or text at 0 ∷ part text (at + 1) w.end
           part_at = part_next text at w.end (omega (arith, (cut_joined room joining c).1.later)) room
 
-          said : (r : Numeral) → NumeralTo text at most_word w.end r → AtomIs atom.constant said_of w.end r
-          said Numeral.Nothing none =
+          said : (r : Option (Parsed ℕ)) → NumeralTo text at most_word w.end r → AtomIs atom.constant said_of w.end r
+          said None none =
               λ n e.
               not_told atom.constant _ n (λ q. clash (cc)) (ap (whole_from most_word) (sym part_at) ∙ none) (as_constant room other _ refl ∙ e)
-          said (Numeral.Is value next) (end, few, is) =
-              (end, sym (as_constant room other value (sym is ∙ ap (whole_from most_word) part_at)) ∙ sym (told_some atom.constant value (λ e. omega arith)))
+          said (Some read) (end, few, is) =
+              (end, sym (as_constant room other read.value (sym is ∙ ap (whole_from most_word) part_at)) ∙ sym (told_some atom.constant read.value (λ e. omega arith)))
 
       single : (room : at < length text) → is_joining (get_or text at 0) ≡ false → AtomIs atom.constant said_of w.end r
       single room unjoined =
@@ -454,12 +455,12 @@ atom_nothing (atom.variable v) unnamed unnumbered' = absurd (unnamed v refl)
 
 -- ---- an operator's number
 
-pub sign_is : (o : Operator) (bytes : List ℕ) → same (spelling (word.sign o)) bytes ≡ true → operator_number o ≡ sign_number (token_of bytes)
-unfolding sign_number
-sign_is o bytes is = sym (ap sign_number ((spells_sign o).is bytes is))
+pub sign_is : (o : Operator) (bytes : List ℕ) → same (spelling (word.sign o)) bytes ≡ true → Some o ≡ sign_of (token_of bytes)
+unfolding sign_of
+sign_is o bytes is = sym (ap sign_of ((spells_sign o).is bytes is))
 
-none_of : (t : Token) → ((o : Operator) → is_word (word.sign o) t ≡ false) → 6 ≡ sign_number t
-unfolding sign_number
+none_of : (t : Token) → ((o : Operator) → is_word (word.sign o) t ≡ false) → None ≡ sign_of t
+unfolding sign_of
 none_of word.skip h = refl
 none_of word.set h = refl
 none_of word.if h = refl
@@ -483,7 +484,7 @@ none_of word.unknown h = refl
 pub no_sign : (bytes : List ℕ) → same (spelling (word.sign Operator.Sum)) bytes ≡ false
     → same (spelling (word.sign Operator.Difference)) bytes ≡ false → same (spelling (word.sign Operator.Product)) bytes ≡ false
     → same (spelling (word.sign Operator.Quotient)) bytes ≡ false → same (spelling (word.sign Operator.Equal)) bytes ≡ false
-    → same (spelling (word.sign Operator.Less)) bytes ≡ false → 6 ≡ sign_number (token_of bytes)
+    → same (spelling (word.sign Operator.Less)) bytes ≡ false → None ≡ sign_of (token_of bytes)
 no_sign bytes sum difference product quotient equal less = none_of (token_of bytes) (λ o. sym ((spells_sign o).told bytes) ∙ other o)
   where
     other : (o : Operator) → same (spelling (word.sign o)) bytes ≡ false
@@ -493,3 +494,36 @@ no_sign bytes sum difference product quotient equal less = none_of (token_of byt
     other Operator.Quotient = quotient
     other Operator.Equal = equal
     other Operator.Less = less
+
+-- ---- the operator that starts at a place, by its byte
+
+module _ {text : List ℕ} {at : ℕ} where
+  pub sign_at_byte : (o : Operator) {byte here : ℕ} → spelling (word.sign o) ≡ byte ∷ [] → is_joining byte ≡ false → at < length text
+      → here ≡ get_or text at 0 → here ≡ byte → SignAt text at (Some o)
+  sign_at_byte o {byte} {here} written unjoined room stands is shown w c =
+      let byte_there : get_or text at 0 ≡ byte = sym stands ∙ is in
+      let there : w ≡ record { start = at; end = at + 1 } = cut_once c (cut_one text at room (shown room) (ap is_joining byte_there ∙ unjoined)) in
+      let bytes : part text w.start w.end ≡ spelling (word.sign o) =
+      ap (λ (s : Span). part text s.start s.end) there ∙ part_one text at room ∙ ap (λ (b : ℕ). b ∷ []) byte_there ∙ sym written in
+      (sign_is o _ (ap (same (spelling (word.sign o))) bytes ∙ same_self (spelling (word.sign o))), λ _. ap (λ (s : Span). s.end) there)
+
+  pub sign_at_none :
+      (at < length text → (byte : ℕ) → byte ≡ get_or text at 0
+      → (byte ≢ 43) × (byte ≢ 45) × (byte ≢ 42) × (byte ≢ 47) × (byte ≢ 61) × (byte ≢ 60)) → SignAt text at None
+  unfolding spelling
+  sign_at_none unlike shown w c = (
+    no_sign _ (lacks 43 (λ h. (others h).0)) (lacks 45 (λ h. (others h).1)) (lacks 42 (λ h. (others h).2)) (lacks 47 (λ h. (others h).3))
+        (lacks 61 (λ h. (others h).4)) (lacks 60 (λ h. (others h).5)),
+    λ e. clash (cc),
+  )
+    where
+      others : at < length text → (get_or text at 0 ≢ 43) × (get_or text at 0 ≢ 45) × (get_or text at 0 ≢ 42) × (get_or text at 0 ≢ 47)
+          × (get_or text at 0 ≢ 61) × (get_or text at 0 ≢ 60)
+      others h = unlike h (get_or text at 0) refl
+
+      lacks : (byte : ℕ) → (at < length text → get_or text at 0 ≢ byte) → same (byte ∷ []) (part text w.start w.end) ≡ false
+      lacks byte ne = by (ltb at (length text)) refl
+        where
+          by : (b : Bool) → ltb at (length text) ≡ b → same (byte ∷ []) (part text w.start w.end) ≡ false
+          by true e = sym (word_unlike (byte ∷ []) refl shown c refl (ne (ltb-true at (length text) e)))
+          by false e = let over = ltb-false at (length text) e in sym (word_short (byte ∷ []) refl shown c (omega arith))

@@ -13,7 +13,7 @@ use Rattle.rules.specs.Trees.{Expr, constant, variable, binary}
 use Rattle.language.specs.Words.{Word}
 use Rattle.language.specs.Tokens as word
 use Rattle.language.specs.Tokens.{Token, token_of, tokens}
-use Rattle.language.specs.Tables.{operator_number}
+use Rattle.rules.specs.Trees.{operator_number}
 use Rattle.language.specs.Recipes.{Statement, skip, set, if, while, Block, one, more, Level, plain, Declaration, Recipe, expr_tokens, statement_tokens, block_tokens, level_tokens, declarations_tokens, recipe_tokens}
 use Rattle.language.specs.Recipes as recipe
 use Rattle.language.specs.Readings.{Fault}

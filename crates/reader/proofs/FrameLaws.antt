@@ -15,7 +15,8 @@ use Rattle.rules.specs.Trees.{Expr, binary}
 use Rattle.language.specs.Tokens as word
 use Rattle.language.specs.Tokens.{Token, tokens}
 use Rattle.language.specs.Recipes.{expr_tokens}
-use Rattle.language.specs.Tables.{expr_below, expr_size, expr_rows, operator_number}
+use Rattle.rules.specs.Trees.{operator_number}
+use Rattle.language.specs.Tables.{expr_below, expr_size, expr_rows}
 use Rattle.spans.specs.Cut.{from}
 use Rattle.language.proofs.RowCounts.{expr_rows_length}
 use Rattle.reader.specs.Machine.{Symbol, expr, exactly, operator, run}
@@ -177,7 +178,7 @@ module _ {text : List ℕ} {at first : ℕ} {before : List ℕ} {s : Inside} {ro
   pub sign_one : {o : Operator} {e : Expr} (last : ℕ) {entry : ℕ} → Led text s.at (word.sign o) end → s.depth ≡ last + 1 → last % most_held < length held
       → entry ≡ (s.count - 1) % most_rows * 8 + operator_number o + 1
       → Standing text at first before s rows held (waiting ∷ frames) (just e)
-      → Standing text at first before (record { at = end; count = s.count; depth = last + 1; whole = false }) rows (set held (last % most_held) entry) (having e o ∷ frames) nothing
+      → Standing text at first before (record { at = end; count = s.count; depth = s.depth; whole = false }) rows (set held (last % most_held) entry) (having e o ∷ frames) nothing
   sign_one {o} {e} last {entry} next deep room is st =
       let few = st.few in
       let further = next.on in

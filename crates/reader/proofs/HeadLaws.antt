@@ -1,13 +1,11 @@
 -- Laws of the declarations at the front of a text: their levels, one declaration, and one more after others.
 use Prim.Native.Nat.{ℕ, ◌+◌, ◌-◌, ◌%◌, ◌≤◌, ◌<◌}
 use native.Mathlib.Omega.{arith}
-use mathlib.Core.Bool.{Bool, true, false, cond, ◌&&◌}
+use mathlib.Core.Bool.{Bool, true, false}
 use mathlib.Core.List.{List, [], ◌∷◌, ◌++◌, append_assoc, append-nil}
 use mathlib.Core.Path.{◌≡◌, refl, sym, ap, ap₂, subst, ◌∙◌}
-use lib.Dec.{eqb}
 use lib.ListN.{length, drop, length-append, length-map, length-drop}
 use lib.Seq.{drop_at, drop-drop}
-use borrow.Author.Tests.{eq-eqb, ne_eqb}
 use Rattle.rules.specs.Limits.{width}
 use Rattle.rules.specs.Marks.{none, has, put}
 use Rattle.language.specs.Words.{Word, word}
@@ -23,8 +21,9 @@ use Rattle.spans.proofs.WordLaws.{part_length}
 use Rattle.reader.specs.Machine.{tag, Symbol, exactly, name, start, level, on_start, on_level, run}
 use Rattle.reader.specs.Steps.{Missing, Later, Stuck}
 use Rattle.reader.specs.Statements.{Led}
-use Rattle.reader.specs.Heads.{LevelClosed, Leveled, LevelRead, DeclaredAs, DeclarationRead, seen_with, declared_from, StandsAt, Declarations}
-use Rattle.reader.specs.declared.head.Level.{Level}
+use Rattle.reader.specs.Heads.{LevelClosed, Leveled, LevelRead, DeclaredAs, again_with, seen_with, declared_from, StandsAt, Declarations}
+use Rattle.std.specs.Prelude.{Result, Ok, Err, Option, Some, None}
+use Rattle.numbers.specs.declared.Parsed.{Parsed}
 use Rattle.reader.specs.declared.head.Declared.{Declared}
 use Rattle.reader.specs.declared.head.Seen.{Seen}
 use Rattle.reader.proofs.RunLaws.{run_declarations}
@@ -42,27 +41,27 @@ level_plain led =
 level_word : {text : List ℕ} {at next : ℕ} {t : Token} (l : recipe.Level) (meant : Bool) → level_tokens l ≡ t ∷ []
     → makes_provisional false l ≡ meant
     → ((ts : List Token) (others : List Symbol) → run (t ∷ ts) (level ∷ others) ≡ run ts (exactly token.semicolon ∷ start ∷ others))
-    → Led text at t next → (r : Level) → LevelClosed text next meant r → LevelRead text at r
-level_word {text} {at} {next} {t} l meant is means went led (Level.Over provisional after) (same-level, closed) =
+    → Led text at t next → (r : Result (Parsed Bool) ℕ) → LevelClosed text next meant r → LevelRead text at r
+level_word {text} {at} {next} {t} l meant is means went led (Ok read) (same-level, closed) =
     record {
       level = l;
       is =
           led.is ∙ ap (λ (ts : List Token). t ∷ ts) closed.is
-          ∙ ap (λ (ts : List Token). ts ++ token.semicolon ∷ tokens (from text after)) (sym is);
+          ∙ ap (λ (ts : List Token). ts ++ token.semicolon ∷ tokens (from text read.next)) (sym is);
       meant = means ∙ sym same-level;
       later = later_on led.later closed.later;
       on = omega (arith, led.on, closed.on);
       inside = closed.inside;
     }
-level_word l meant is means went led (Level.Faulty place) closed =
+level_word l meant is means went led (Err place) closed =
     stuck_word led went (stuck_more closed (start ∷ []))
 
-pub level_settled : {text : List ℕ} {at next : ℕ} → Led text at token.settled next → (r : Level) → LevelClosed text next false r
+pub level_settled : {text : List ℕ} {at next : ℕ} → Led text at token.settled next → (r : Result (Parsed Bool) ℕ) → LevelClosed text next false r
     → LevelRead text at r
 unfolding run tag on_level makes_provisional
 level_settled = level_word recipe.settled false refl refl (λ ts others. refl)
 
-pub level_provisional : {text : List ℕ} {at next : ℕ} → Led text at token.provisional next → (r : Level) → LevelClosed text next true r
+pub level_provisional : {text : List ℕ} {at next : ℕ} → Led text at token.provisional next → (r : Result (Parsed Bool) ℕ) → LevelClosed text next true r
     → LevelRead text at r
 unfolding run tag on_level makes_provisional
 level_provisional = level_word recipe.provisional true refl refl (λ ts others. refl)
@@ -74,16 +73,11 @@ level_none a b c = stuck_here level refl (λ first later e. rw (a first later e,
 
 -- ---- declarations
 
--- a declaration's answer, from that on its level
-abbrev pub declared_as : ℕ → ℕ → ℕ → Level → Declared
-declared_as variable first last (Level.Over provisional next) = Declared.As variable first last provisional next
-declared_as variable first last (Level.Faulty place) = Declared.Faulty place
-
 pub declaration_variable : {text : List ℕ} {at : ℕ} {s : Span} {v : ℕ} → Cut text at s
-    → Led text at (token.variable v) s.end → (r : Level) → LevelRead text s.end r
-    → DeclarationRead text at (declared_as v s.start s.end r)
+    → Led text at (token.variable v) s.end → {provisional : Bool} {next : ℕ} → Leveled text s.end provisional next
+    → DeclaredAs text at v s.start s.end provisional next
 unfolding run tag
-declaration_variable {text} {at} {s} {v} c led (Level.Over provisional next) l =
+declaration_variable {text} {at} {s} {v} c led l =
     let some = led_some c led in
     record {
       level = l.level;
@@ -98,7 +92,12 @@ declaration_variable {text} {at} {s} {v} c led (Level.Over provisional next) l =
       on = omega (arith, led.on, l.on);
       inside = l.inside;
     }
-declaration_variable c led (Level.Faulty place) l = stuck_word led (λ ts others. refl) l
+
+-- where its level is at fault
+pub declaration_stuck : {text : List ℕ} {at next place v : ℕ} → Led text at (token.variable v) next → Stuck text next (level ∷ []) place
+    → Stuck text at (name ∷ level ∷ []) place
+unfolding run tag
+declaration_stuck led l = stuck_word led (λ ts others. refl) l
 
 -- ---- one declaration more
 
@@ -181,38 +180,16 @@ words_dropped {text} {at} {next} front later is =
     ap (drop (length front)) later.split ∙ drop_at later.between (from text next) (length front) size
 
 -- where the first variable stands that is declared again, with one declaration more
-stands_more : (words here : List Word) (begin end first last : ℕ) (again : Bool) → StandsAt words begin end → StandsAt here first last
-    → StandsAt (or_else words (on_declared again here [])) (cond (eqb end 0 && again) first begin) (cond (eqb end 0 && again) last end)
+stands_more : (words here : List Word) (before : Option Span) (found : Span) (again : Bool) → StandsAt words before → StandsAt here (Some found)
+    → StandsAt (or_else words (on_declared again here [])) (again_with before again found)
 unfolding on_declared
-stands_more [] here begin end first last true (none-begin, none_end) stands =
-    subst (λ (b : Bool). StandsAt here (cond (b && true) first begin) (cond (b && true) last end)) (sym (eq-eqb end 0 none_end)) stands
-stands_more [] here begin end first last false (none-begin, none_end) stands =
-    subst (λ (b : Bool). StandsAt [] (cond (b && false) first begin) (cond (b && false) last end)) (sym (eq-eqb end 0 none_end))
-    (none-begin, none_end)
-stands_more (w ∷ words) here begin end first last again stood stands =
-    subst (λ (b : Bool). StandsAt (w ∷ words) (cond (b && again) first begin) (cond (b && again) last end))
-    (sym (ne_eqb end 0 (λ e. omega (arith, stood.2)))) stood
+stands_more [] here None found true stood stands = stands
+stands_more [] here None found false stood stands = tt
+stands_more [] here (Some first) found again stood stands = absurd stood
+stands_more (w ∷ words) here None found again stood stands = absurd stood
+stands_more (w ∷ words) here (Some first) found again stood stands = stood
 
-pub first_again_no : (end : ℕ) (again : Bool) → (end ≡ 0 → ⊥) → false ≡ (eqb end 0 && again)
-first_again_no end again ne = sym (ap (λ (b : Bool). b && again) (ne_eqb end 0 ne))
-
-pub first_again_yes : (end : ℕ) (again : Bool) → end ≡ 0 → again ≡ (eqb end 0 && again)
-first_again_yes end again e = sym (ap (λ (b : Bool). b && again) (eq-eqb end 0 e))
-
-pub seen_more : (s : Seen) (variable first last : ℕ) (provisional : Bool) (next declared marks : ℕ) (again : Bool)
-    → declared ≡ put (variable % width) true s.declared → marks ≡ put (variable % width) provisional s.marks
-    → again ≡ (eqb s.end 0 && has s.declared (variable % width))
-    → record {
-      at = next;
-      declared = declared;
-      marks = marks;
-      start = cond again first s.start;
-      end = cond again last s.end;
-    }
-    ≡ seen_with s variable first last provisional next
-seen_more s variable first last provisional next declared marks again e f g = cc
-
-pub head_none : (text : List ℕ) → Declarations text (record { at = 0; declared = 0; marks = 0; start = 0; end = 0 })
+pub head_none : (text : List ℕ) → Declarations text (record { at = 0; declared = 0; marks = 0; again = None })
 unfolding none marks_from repeated
 head_none text =
     record {
@@ -221,14 +198,17 @@ head_none text =
       later = later_self;
       declared = refl;
       marks = refl;
-      again = (refl, refl);
+      again = tt;
       inside = omega arith;
     }
 
-head_added : {text : List ℕ} {s : Seen} {mid variable first last : ℕ} {provisional : Bool} {next : ℕ} → Declarations text s
-    → Led text s.at token.input mid → DeclaredAs text mid variable first last provisional next
-    → Declarations text (seen_with s variable first last provisional next)
-head_added {text} {s} {mid} {variable} {first} {last} {provisional} {next} before led d =
+head_added : {text : List ℕ} {s : Seen} {mid : ℕ} {r : Declared} → Declarations text s → Led text s.at token.input mid
+    → DeclaredAs text mid r.variable r.name.start r.name.end r.provisional r.next → Declarations text (seen_with s r)
+head_added {text} {s} {mid} {r} before led d =
+    let variable : ℕ = r.variable in
+    let first : ℕ = r.name.start in
+    let last : ℕ = r.name.end in
+    let next : ℕ = r.next in
     let ds : List Declaration = before.declarations in
     let more : Declaration = record { variable = variable; level = d.level } in
     let same_variable : variable % width ≡ variable = omega (arith, d.known) in
@@ -251,31 +231,24 @@ head_added {text} {s} {mid} {variable} {first} {last} {provisional} {next} befor
       later = later_on before.later (later_on led.later d.later);
       declared = ap₂ (λ (v m : ℕ). put v true m) same_variable before.declared ∙ declared_more ds more none;
       marks =
-          ap₂ (λ (v m : ℕ). put v provisional m) same_variable before.marks
+          ap₂ (λ (v m : ℕ). put v r.provisional m) same_variable before.marks
           ∙ ap (λ (b : Bool). put variable b (marks_from false none ds)) (sym d.meant)
           ∙ marks_more ds more none;
       again =
-          subst
-          (λ (b : Bool).
-          StandsAt (repeated none (ds ++ more ∷ []) (from text 0)) (cond (eqb s.end 0 && b) first s.start)
-          (cond (eqb s.end 0 && b) last s.end))
-          (sym was)
-          (subst
-          (λ (words : List Word).
-          StandsAt words (cond (eqb s.end 0 && has (declared_from none ds) variable) first s.start)
-          (cond (eqb s.end 0 && has (declared_from none ds) variable) last s.end))
+          subst (λ (b : Bool). StandsAt (repeated none (ds ++ more ∷ []) (from text 0)) (again_with s.again b r.name)) (sym was)
+          (subst (λ (words : List Word). StandsAt words (again_with s.again (has (declared_from none ds) variable) r.name))
           (sym (repeated_more ds more none (from text 0) long))
-          (stands_more (repeated none ds (from text 0)) _ s.start s.end first last (has (declared_from none ds) variable)
-          before.again (subst (λ (words : List Word). StandsAt words first last) (sym dropped) (refl, omega (arith, d.some), d.some))));
+          (stands_more (repeated none ds (from text 0)) _ s.again r.name (has (declared_from none ds) variable)
+          before.again (subst (λ (words : List Word). StandsAt words (Some r.name)) (sym dropped) (refl, omega (arith, d.some), d.some))));
       inside = d.inside;
     }
 
-pub head_more : {text : List ℕ} {s : Seen} {mid variable first last : ℕ} {provisional : Bool} {next : ℕ} → Declarations text s
-    → Led text s.at token.input mid → DeclaredAs text mid variable first last provisional next → (r : Seen)
-    → r ≡ seen_with s variable first last provisional next → Declarations text r × (length text - r.at < length text - s.at)
-head_more {text} {s} {next = next} before led d r e =
-    let at_next : r.at ≡ next = ap (λ (x : Seen). x.at) e in
-    (subst (Declarations text) (sym e) (head_added before led d), omega (arith, led.on, d.on, d.inside))
+pub head_more : {text : List ℕ} {s : Seen} {mid : ℕ} {d : Declared} → Declarations text s → Led text s.at token.input mid
+    → DeclaredAs text mid d.variable d.name.start d.name.end d.provisional d.next → (r : Seen)
+    → r ≡ seen_with s d → Declarations text r × (length text - r.at < length text - s.at)
+head_more {text} {s} {d = d} before led read r e =
+    let at_next : r.at ≡ d.next = ap (λ (x : Seen). x.at) e in
+    (subst (Declarations text) (sym e) (head_added before led read), omega (arith, led.on, read.on, read.inside))
 
 pub head_faulty : {text : List ℕ} {s : Seen} {mid place : ℕ} → Declarations text s → Led text s.at token.input mid
     → Stuck text mid (name ∷ level ∷ []) place → Stuck text 0 (start ∷ []) place

@@ -14,3 +14,4 @@ pub mod StatementLaws
 pub mod HeadLaws
 pub mod WholeLaws
 pub mod TextLaws
+pub mod ErrLaws

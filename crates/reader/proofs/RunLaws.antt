@@ -8,7 +8,7 @@ use Rattle.rules.specs.declared.Operator.{Operator}
 use Rattle.rules.specs.Trees.{Expr, constant, variable, binary}
 use Rattle.language.specs.Tokens as word
 use Rattle.language.specs.Tokens.{Token}
-use Rattle.language.specs.Tables.{operator_number}
+use Rattle.rules.specs.Trees.{operator_number}
 use Rattle.language.specs.Recipes.{Statement, skip, set, if, while, Block, one, more, Level, plain, Declaration, Recipe, expr_tokens, statement_tokens, block_tokens, level_tokens, declaration_tokens, declarations_tokens, recipe_tokens}
 use Rattle.language.specs.Recipes as recipe
 use Rattle.reader.specs.Machine.{tag, Closer, at_else, at_end, at_finish, Symbol, expr, statement, exactly, name, operator, rest, start, on_expr, on_statement, closing, on_rest, on_start, on_level, expected, finished, onward, run}

@@ -9,7 +9,7 @@ use Rattle.lines.specs.Numbers.{is_digit}
 use Rattle.language.specs.Words.{is_letter, is_joining}
 use Rattle.language.specs.Tokens as word
 use Rattle.language.specs.Tokens.{Token, fixed, same, counted, among, token_of}
-use Rattle.language.specs.Tables.{operator_number}
+use Rattle.rules.specs.Trees.{operator_number}
 use Rattle.reader.specs.Machine.{tag}
 use Rattle.reader.specs.Statements.{one_word, Spells}
 use Rattle.reader.proofs.FaultLaws.{is_fixed}

@@ -36,7 +36,7 @@ key_single (byte ∷ next ∷ key) one single =
     let none : false ≡ true = ap (λ (b : Bool). b && all_joining (next ∷ key)) (sym single) ∙ one in
     absurd (true≢false (sym none))
 
-same_self : (key : List ℕ) → same key key ≡ true
+pub same_self : (key : List ℕ) → same key key ≡ true
 unfolding same
 same_self [] = refl
 same_self (byte ∷ key) = ap₂ (λ (a b : Bool). a && b) (eq-eqb byte byte refl) (same_self key)

@@ -3,7 +3,7 @@ use Prim.Native.Nat.{ℕ, ◌+◌, ◌-◌, ◌≤◌}
 use native.Mathlib.Nat.{add-zero}
 use native.Mathlib.Omega.{arith}
 use mathlib.Core.List.{List, [], ◌∷◌, ◌++◌, append_assoc, append-nil}
-use mathlib.Core.Path.{◌≡◌, refl, sym, ap, ap₂, subst, ◌∙◌}
+use mathlib.Core.Path.{◌≡◌, refl, sym, ap, ap₂, ◌∙◌}
 use lib.ListN.{length, length-append}
 use Rattle.rules.specs.declared.Operator.{Operator}
 use Rattle.rules.specs.Cases.{Quad}
@@ -18,12 +18,13 @@ use Rattle.spans.specs.Cut.{from, Begun}
 use Rattle.language.proofs.RowCounts.{expr_rows_length, statement_rows_length, block_rows_length}
 use Rattle.reader.specs.Machine.{Closer, at_else, at_end, Symbol, expr, statement, exactly, name, rest, on_statement, closing, on_rest, run}
 use Rattle.reader.specs.Rows.{row_put, rows_put}
-use Rattle.reader.specs.Steps.{Missing, Sort, expressions, statements, blocks, Later, Asked, Read, Stuck, Stepped, Over, BlockStepped}
-use Rattle.reader.specs.Statements.{Spells, Led, Ended, Outputs, settled, provisional}
-use Rattle.reader.specs.declared.expressions.Step.{Step}
+use Rattle.reader.specs.Steps.{Missing, Sort, expressions, statements, blocks, Later, Asked, Read, Stuck, Over}
+use Rattle.reader.specs.Statements.{Spells, Led, EndedAt, Outputs, settled, provisional}
+use Rattle.std.specs.Prelude.{Ok, Err}
+use Rattle.reader.specs.declared.expressions.Place.{Place}
 use Rattle.reader.proofs.RunLaws.{joined, run_exactly, run_expr, run_statement, run_block, run_more, run_else, run_if, run_while, run_set, run_name, run_settled, run_provisional}
-use Rattle.reader.proofs.RowLaws.{rows_put_append, rows_put_length}
-use Rattle.reader.proofs.PlaceLaws.{later_self, later_on, begun_on, later_begun, stuck_more, stuck_past, stuck_here, stuck_word, lacks_word}
+use Rattle.reader.proofs.RowLaws.{rows_put_append}
+use Rattle.reader.proofs.PlaceLaws.{later_self, later_on, begun_on, later_begun, stuck_past, stuck_here, stuck_word, lacks_word}
 
 -- parts with a word after them
 abbrev pub ended_by : {Tree : Type 0} → Token → Sort Tree → Sort Tree
@@ -86,18 +87,14 @@ module _ {text : List ℕ} where
 -- ---- what may be asked afterwards
 
 pub asked_on :
-    {Tree : Type 0} {sort : Sort Tree} {text rows left : List ℕ} {at count next total : ℕ} → Asked text at count rows → Read sort text at count rows next total left
-    → Asked text next total left
-asked_on {sort = sort} {rows = rows} {count = count} a r =
-    record {
-      inside = r.inside;
-      short = a.short;
-      few = omega (arith, a.few, r.few);
-      long = ap length r.put ∙ rows_put_length count (sort.rows count r.tree) rows ∙ a.long;
-    }
+    {Tree : Type 0} {sort : Sort Tree} {text rows left : List ℕ} {at next : Place} → Asked text at
+    → Read sort text at.at at.count rows next.at next.count left → Asked text next
+asked_on a r = record { inside = r.inside; short = a.short; few = omega (arith, a.few, r.few) }
 
-pub asked_after : {text rows : List ℕ} {at count next : ℕ} {t : Token} → Asked text at count rows → Led text at t next → Asked text next count rows
-asked_after a w = record { inside = w.inside; short = a.short; few = omega (arith, a.few, w.on); long = a.long }
+-- the same number of rows, at a place after a word
+pub asked_after : {text : List ℕ} {at next : Place} {t : Token} → Asked text at → next.count ≡ at.count → Led text at.at t next.at → Asked text next
+asked_after a same_count w =
+    record { inside = w.inside; short = a.short; few = omega (arith, a.few, w.on, same_count) }
 
 -- ---- where no recipe goes on
 
@@ -334,40 +331,27 @@ module _ {text : List ℕ} where
       (pass_on (pass_read statement_rows_length x) (pass_on (pass_word w) (pass_on (pass_read block_rows_length y) (pass_row put))))
       (rw append-nil) (more_rows count stated total x.tree y.tree x.counted y.counted) y.inside (omega (arith, x.few, w.on, y.few))
 
--- ---- a word after what a step has read
+-- ---- a word after what was read
 
-module _ {text rows : List ℕ} {at count : ℕ} (a : Asked text at count rows) {key : List ℕ} {t : Token} (k : Spells key t) where
-  test_then :
-      (step r : Step) (left : List ℕ) → Stepped expressions (expr ∷ []) text at count rows step left → Ended text key step r
-      → Stepped (ended_by t expressions) (expr ∷ exactly t ∷ []) text at count rows r left
-  test_then (Step.Faulty place) r left s e = rw e (stuck_more s.0 (exactly t ∷ []), s.1)
-  test_then (Step.Next next total) (Step.Faulty place) left s e =
-      let w = e t k in
-      rw w.0 (stuck_expr (exactly t ∷ []) s (lacks_word w.1), (asked_on a s).long)
-  test_then (Step.Next mid some) (Step.Next next total) left s e =
-      let w = e t k in
-      rw w.0 (ended_read {sort = expressions} expr_rows_length s w.1)
-
-  block_then :
-      {c : Closer} → Closes c t → (step r : Step) (left : List ℕ) → BlockStepped text at count rows step left → Ended text key step r
-      → Stepped (ended_by t blocks) (statement ∷ rest c ∷ []) text at count rows r left
-  block_then {c} closes (Step.Faulty place) r left s e = rw e (s.0 c, s.1)
-  block_then {c} closes (Step.Next next total) (Step.Faulty place) left s e =
-      let w = e t k in
-      rw w.0 (stuck_block c s.0 (lacks_closer closes s.1 w.1), (asked_on a s.0).long)
-  block_then closes (Step.Next mid some) (Step.Next next total) left s e =
-      let w = e t k in
-      rw w.0 (ended_read {sort = blocks} block_rows_length s.0 w.1)
-
-  -- what is known of the last step is said of what it is
+module _ {text rows left : List ℕ} {at read : Place} {key : List ℕ} {t : Token} (k : Spells key t) where
+  -- a test and the word after it
   pub test_ended :
-      (step : Step) (left : List ℕ) {r is : Step} → Stepped expressions (expr ∷ []) text at count rows step left → Ended text key step r → r ≡ is
-      → Stepped (ended_by t expressions) (expr ∷ exactly t ∷ []) text at count rows is left
-  test_ended step left {r} s e known =
-      subst (λ (x : Step). Stepped (ended_by t expressions) (expr ∷ exactly t ∷ []) text at count rows x left) known (test_then step r left s e)
+      {next : Place} → Read expressions text at.at at.count rows read.at read.count left → EndedAt text read t (Ok next)
+      → Read (ended_by t expressions) text at.at at.count rows next.at next.count left
+  test_ended {next} r (same_count, w) = rw same_count (ended_read {sort = expressions} expr_rows_length r w)
 
+  pub test_unended :
+      {place : ℕ} → Read expressions text at.at at.count rows read.at read.count left → EndedAt text read t (Err place)
+      → Stuck text at.at (expr ∷ exactly t ∷ []) place
+  test_unended r (is, m) = rw is (stuck_expr (exactly t ∷ []) r (lacks_word m))
+
+  -- a block and the word after it
   pub block_ended :
-      {c : Closer} → Closes c t → (step : Step) (left : List ℕ) {r is : Step} → BlockStepped text at count rows step left → Ended text key step r → r ≡ is
-      → Stepped (ended_by t blocks) (statement ∷ rest c ∷ []) text at count rows is left
-  block_ended {c} closes step left {r} s e known =
-      subst (λ (x : Step). Stepped (ended_by t blocks) (statement ∷ rest c ∷ []) text at count rows x left) known (block_then closes step r left s e)
+      {next : Place} → Read blocks text at.at at.count rows read.at read.count left × Over text read.at → EndedAt text read t (Ok next)
+      → Read (ended_by t blocks) text at.at at.count rows next.at next.count left
+  block_ended {next} (r, over) (same_count, w) = rw same_count (ended_read {sort = blocks} block_rows_length r w)
+
+  pub block_unended :
+      {c : Closer} → Closes c t → {place : ℕ} → Read blocks text at.at at.count rows read.at read.count left × Over text read.at
+      → EndedAt text read t (Err place) → Stuck text at.at (statement ∷ rest c ∷ []) place
+  block_unended {c} closes (r, over) (is, m) = rw is (stuck_block c r (lacks_closer closes over m))

@@ -1,5 +1,5 @@
 -- What a whole text reads as, from how far its words were gone on with.
-use Prim.Native.Nat.{ℕ, ◌-◌, ◌*◌, ◌≤◌, ◌<◌}
+use Prim.Native.Nat.{ℕ, ◌*◌, ◌≤◌, ◌<◌}
 use native.Mathlib.Omega.{arith}
 use mathlib.Core.Bool.{Bool, false, cond}
 use mathlib.Core.List.{List, [], ◌∷◌, ◌++◌, append-nil}
@@ -8,14 +8,14 @@ use lib.ListN.{length, take}
 use Rattle.rules.specs.Limits.{row_words, most_rows, table_words}
 use Rattle.rules.specs.Marks.{none}
 use Rattle.language.specs.declared.Part.{Part}
-use Rattle.language.specs.declared.Said.{Said}
+use Rattle.language.specs.Said.{Said}
 use Rattle.language.specs.Limits.{most_text_bytes, too_long, faulty_word}
 use Rattle.language.specs.Words.{Word}
 use Rattle.language.specs.Tokens as word
 use Rattle.language.specs.Tokens.{Token, tokens}
 use Rattle.language.specs.Recipes.{Recipe, declarations_tokens, block_tokens}
 use Rattle.language.specs.Tables.{block_size, block_rows, table_of, marks_of}
-use Rattle.language.specs.Readings.{Is, refused, Reads, long, faulty, read}
+use Rattle.language.specs.Readings.{Is, end_of, refused, Reads, long, faulty, read}
 use Rattle.spans.specs.declared.Span.{Span}
 use Rattle.spans.specs.Cut.{from, Cut}
 use Rattle.spans.proofs.WordLaws.{cut_part}
@@ -25,17 +25,14 @@ use Rattle.reader.specs.Steps.{blocks, Read, Stuck, Over}
 use Rattle.reader.specs.Heads.{HeadRead}
 use Rattle.reader.specs.Wholes.{turned_away, blamed, answered, Made}
 use Rattle.reader.specs.declared.head.Seen.{Seen}
-use Rattle.reader.specs.declared.head.Head.{Head}
+use Rattle.std.specs.Prelude.{Ok}
 use Rattle.reader.proofs.RunLaws.{run_declarations, run_block}
 use Rattle.reader.proofs.FaultLaws.{fault}
 use Rattle.reader.proofs.PlaceLaws.{later_on}
-use Rattle.reader.proofs.RowLaws.{rows_put_length, rows_front}
+use Rattle.reader.proofs.RowLaws.{rows_front}
 
-pub reads_long : (text table : List ℕ) → most_text_bytes < length text
-    → Reads false text table (answered (turned_away too_long 0 (length text) (length text)) table)
-reads_long text table h =
-    let size : 0 ≡ length text - length text = omega arith in
-    subst (λ (n : ℕ). Reads false text table (answered (refused too_long 0 (record { start = length text; size = n })) table)) size (long h)
+pub reads_long : (text table : List ℕ) → most_text_bytes < length text → Reads false text table (answered (refused too_long 0 (end_of text)) table)
+reads_long text table h = long h
 
 -- ---- a faulty word
 
@@ -64,14 +61,14 @@ started (t ∷ ts) none =
     on (go new) = ap (run ts) (append-nil (new ++ rest at_finish ∷ []))
 
 -- the words of a text after its declarations
-after_head : (text : List ℕ) (s : Seen) → HeadRead text (Head.Over s)
+after_head : (text : List ℕ) (s : Seen) → HeadRead text (Ok s)
     → run (tokens (from text 0)) (start ∷ []) ≡ run (tokens (from text s.at)) (statement ∷ rest at_finish ∷ [])
 after_head text s (d, over) =
     ap (λ (l : List Token). run l (start ∷ [])) d.is
     ∙ run_declarations d.declarations (tokens (from text s.at)) []
     ∙ started (tokens (from text s.at)) over
 
-pub body_faulty : (text table : List ℕ) (s : Seen) (place : ℕ) → length text ≤ most_text_bytes → HeadRead text (Head.Over s)
+pub body_faulty : (text table : List ℕ) (s : Seen) (place : ℕ) → length text ≤ most_text_bytes → HeadRead text (Ok s)
     → Stuck text s.at (statement ∷ rest at_finish ∷ []) place → Reads false text table (answered (blamed text place) table)
 body_faulty text table s place h head q =
     let all = later_on head.0.later q.later in
@@ -87,14 +84,14 @@ left_over ts over t others e =
     ∙ ap (λ (b : Bool). onward (cond b (go (statement ∷ rest at_finish ∷ [])) stop) (run others) [] (t ∷ others)) (over t others e)
     ∙ ap stuck (sym e)
 
-after_block : (text rows left : List ℕ) (s : Seen) (next count : ℕ) → HeadRead text (Head.Over s) → Read blocks text s.at 0 rows next count left
+after_block : (text rows left : List ℕ) (s : Seen) (next count : ℕ) → HeadRead text (Ok s) → Read blocks text s.at 0 rows next count left
     → run (tokens (from text 0)) (start ∷ []) ≡ run (tokens (from text next)) (rest at_finish ∷ [])
 after_block text rows left s next count head b =
     after_head text s head
     ∙ ap (λ (l : List Token). run l (statement ∷ rest at_finish ∷ [])) b.is
     ∙ run_block b.tree at_finish (tokens (from text next)) []
 
-pub body_left : (text table rows left : List ℕ) (s : Seen) (next count : ℕ) (w : Span) → length text ≤ most_text_bytes → HeadRead text (Head.Over s)
+pub body_left : (text table rows left : List ℕ) (s : Seen) (next count : ℕ) (w : Span) → length text ≤ most_text_bytes → HeadRead text (Ok s)
     → Read blocks text s.at 0 rows next count left → Over text next → Cut text next w → w.start < w.end
     → Reads false text table (answered (turned_away faulty_word 0 w.start w.end) table)
 body_left text table rows left s next count w h head b over cut some =
@@ -106,7 +103,7 @@ body_left text table rows left s next count w h head b over cut some =
 -- ---- a recipe
 
 pub body_read : (text table left rows : List ℕ) (s : Seen) (next count : ℕ) (w : Span) (said : Said) (kept : List ℕ) → length text ≤ most_text_bytes
-    → HeadRead text (Head.Over s) → length rows ≡ table_words → Read blocks text s.at 0 rows next count left → Cut text next w → w.start ≡ w.end
+    → HeadRead text (Ok s) → length rows ≡ table_words → Read blocks text s.at 0 rows next count left → Cut text next w → w.start ≡ w.end
     → Made text s left count table said kept → Reads false text table (answered said kept)
 unfolding table_of marks_of
 body_read text table left rows s next count w said kept h head whole b cut ends made =
@@ -135,7 +132,3 @@ body_read text table left rows s next count w said kept h head whole b cut ends 
 pub reads_as : (text table : List ℕ) {said other : Said} {left : List ℕ} → said ≡ other → Reads false text table (answered other left)
     → Reads false text table (answered said left)
 reads_as text table {left} e h = subst (λ (x : Said). Reads false text table (answered x left)) (sym e) h
-
--- the rows that a block leaves are as many words as before it
-pub body_rows : {text rows left : List ℕ} {at next count : ℕ} → Read blocks text at 0 rows next count left → length rows ≡ table_words → length left ≡ table_words
-body_rows {rows} b h = ap length b.put ∙ rows_put_length 0 (block_rows 0 b.tree) rows ∙ h

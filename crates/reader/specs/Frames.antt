@@ -1,5 +1,5 @@
 -- An expression that is being read: what is open, and what of it has been read.
-use Rattle.std.specs.Prelude.{ℕ, ◌+◌, ◌*◌, ◌/◌, ◌%◌, ◌≤◌, ◌<◌, Bool, true, false, List, [], ◌∷◌, ◌++◌, ◌≡◌, length, get_or}
+use Rattle.std.specs.Prelude.{Result, Ok, Err, ℕ, ◌+◌, ◌*◌, ◌/◌, ◌%◌, ◌≤◌, ◌<◌, Bool, true, false, List, [], ◌∷◌, ◌++◌, ◌≡◌, length, get_or}
 use Rattle.rules.specs.declared.Operator.{Operator}
 use Rattle.rules.specs.Cases.{Quad}
 use Rattle.rules.specs.Trees.{Expr}
@@ -7,14 +7,14 @@ use Rattle.language.specs.Limits.{most_text_bytes}
 use Rattle.language.specs.Tokens as word
 use Rattle.language.specs.Tokens.{Token, tokens}
 use Rattle.language.specs.Recipes.{expr_tokens}
-use Rattle.language.specs.Tables.{expr_below, expr_size, operator_number, expr_rows}
+use Rattle.rules.specs.Trees.{operator_number}
+use Rattle.language.specs.Tables.{expr_below, expr_size, expr_rows}
 use Rattle.spans.specs.Cut.{from}
 use Rattle.reader.specs.Machine.{expr}
-use Rattle.rules.specs.Limits.{most_rows, table_words}
+use Rattle.rules.specs.Limits.{most_rows}
 use Rattle.reader.specs.Rows.{rows_put}
 use Rattle.reader.specs.Steps.{Later, Stuck}
 use Rattle.reader.specs.declared.expressions.Inside.{Inside}
-use Rattle.reader.specs.declared.expressions.Turn.{Turn}
 
 -- a parenthesis that is open: its left side is being read; or its right side, after a left side and an operator
 pub data Frame : Type 0 where
@@ -85,15 +85,13 @@ abbrev pub whole_rows : ℕ → Whole → List Quad
 whole_rows base nothing = []
 whole_rows base (just e) = expr_rows base e
 
--- this much of the text, and of the arrays, may be asked of
-pub record Ready (text : List ℕ) (s : Inside) (rows held : List ℕ) : Type 0 where
+-- this much of the text may be asked of
+pub record Ready (text : List ℕ) (s : Inside) : Type 0 where
   pub inside : s.at ≤ length text
   pub short : length text ≤ most_text_bytes
   pub few : s.count ≤ s.at
   pub low : s.depth ≤ s.at
   pub some : s.whole ≡ true → 0 < s.count
-  pub rows_long : length rows ≡ table_words
-  pub held_long : length held ≡ most_held
 
 -- An expression that begins at a place, with its first row at first, is read as far as this: these parentheses are open.
 pub record Standing (text : List ℕ) (at first : ℕ) (before : List ℕ) (s : Inside) (rows held : List ℕ) (frames : List Frame) (whole : Whole) : Type 0 where
@@ -111,12 +109,11 @@ abbrev pub Reached : List ℕ → ℕ → ℕ → List ℕ → Inside → List �
 Reached text at first before s rows held =
     (frames : List Frame) × (whole : Whole) × Standing text at first before s rows held frames whole
 
--- what a turn says: wherever the expression was read as far as before it, it is read further, or is over, or the word is at fault
-abbrev pub Turned : List ℕ → Inside → List ℕ → List ℕ → Turn → List ℕ → List ℕ → Type 0
-Turned text s rows held (Turn.Went s') left held' =
-    (s.at < s'.at) × Ready text s' left held'
+-- what a turn says: wherever the expression was read as far as before it, it is read further, or the word is at fault
+abbrev pub Turned : List ℕ → Inside → List ℕ → List ℕ → Result Inside ℕ → List ℕ → List ℕ → Type 0
+Turned text s rows held (Ok s') left held' =
+    (s.at < s'.at) × Ready text s'
     × ((at first : ℕ) (before : List ℕ) → Reached text at first before s rows held → Reached text at first before s' left held')
-Turned text s rows held Turn.Over left held' = (s.whole ≡ true) × (s.depth ≡ 0) × (left ≡ rows) × (held' ≡ held)
-Turned text s rows held Turn.Faulty left held' =
-    (length left ≡ table_words) × (length held' ≡ most_held)
+Turned text s rows held (Err place) left held' =
+    (place ≡ s.at)
     × ((at first : ℕ) (before : List ℕ) → Reached text at first before s rows held → Stuck text at (expr ∷ []) s.at)

@@ -1,5 +1,5 @@
 -- What the reader of declarations says.
-use Rattle.std.specs.Prelude.{ℕ, ◌+◌, ◌%◌, ◌≤◌, ◌<◌, Bool, true, false, cond, ◌&&◌, List, [], ◌∷◌, ◌++◌, ◌≡◌, eqb, length}
+use Rattle.std.specs.Prelude.{Result, Ok, Err, Option, Some, None, ℕ, ◌+◌, ◌%◌, ◌≤◌, ◌<◌, Bool, true, false, List, [], ◌∷◌, ◌++◌, ◌≡◌, length}
 use Rattle.rules.specs.Limits.{width}
 use Rattle.rules.specs.Marks.{none, has, put}
 use Rattle.language.specs.Words.{Word, word}
@@ -13,16 +13,16 @@ use Rattle.spans.specs.Cut.{from, part}
 use Rattle.reader.specs.Machine.{exactly, name, start, level}
 use Rattle.reader.specs.Steps.{Later, Missing, Stuck}
 use Rattle.reader.specs.Statements.{Led}
-use Rattle.reader.specs.declared.head.Level.{Level}
+use Rattle.numbers.specs.declared.Parsed.{Parsed}
+use Rattle.spans.specs.declared.Span.{Span}
 use Rattle.reader.specs.declared.head.Declared.{Declared}
 use Rattle.reader.specs.declared.head.Seen.{Seen}
-use Rattle.reader.specs.declared.head.Head.{Head}
 
 -- the semicolon after a level word
-abbrev pub LevelClosed : List ℕ → ℕ → Bool → Level → Type 0
-LevelClosed text at meant (Level.Over provisional next) =
-    (provisional ≡ meant) × Led text at token.semicolon next
-LevelClosed text at meant (Level.Faulty place) = Stuck text at (exactly token.semicolon ∷ []) place
+abbrev pub LevelClosed : List ℕ → ℕ → Bool → Result (Parsed Bool) ℕ → Type 0
+LevelClosed text at meant (Ok read) =
+    (read.value ≡ meant) × Led text at token.semicolon read.next
+LevelClosed text at meant (Err place) = Stuck text at (exactly token.semicolon ∷ []) place
 
 -- A declaration after its variable, where a plain one is settled.
 pub record Leveled (text : List ℕ) (at : ℕ) (provisional : Bool) (next : ℕ) : Type 0 where
@@ -33,9 +33,9 @@ pub record Leveled (text : List ℕ) (at : ℕ) (provisional : Bool) (next : ℕ
   pub on : at < next
   pub inside : next ≤ length text
 
-abbrev pub LevelRead : List ℕ → ℕ → Level → Type 0
-LevelRead text at (Level.Over provisional next) = Leveled text at provisional next
-LevelRead text at (Level.Faulty place) = Stuck text at (level ∷ []) place
+abbrev pub LevelRead : List ℕ → ℕ → Result (Parsed Bool) ℕ → Type 0
+LevelRead text at (Ok read) = Leveled text at read.value read.next
+LevelRead text at (Err place) = Stuck text at (level ∷ []) place
 
 -- A declaration after its first word: its variable's word is the first there.
 pub record DeclaredAs (text : List ℕ) (at variable first last : ℕ) (provisional : Bool) (next : ℕ) : Type 0 where
@@ -51,18 +51,23 @@ pub record DeclaredAs (text : List ℕ) (at variable first last : ℕ) (provisio
   pub on : at < next
   pub inside : next ≤ length text
 
-abbrev pub DeclarationRead : List ℕ → ℕ → Declared → Type 0
-DeclarationRead text at (Declared.As variable first last provisional next) = DeclaredAs text at variable first last provisional next
-DeclarationRead text at (Declared.Faulty place) = Stuck text at (name ∷ level ∷ []) place
+abbrev pub DeclarationRead : List ℕ → ℕ → Result Declared ℕ → Type 0
+DeclarationRead text at (Ok d) = DeclaredAs text at d.variable d.name.start d.name.end d.provisional d.next
+DeclarationRead text at (Err place) = Stuck text at (name ∷ level ∷ []) place
+
+-- where a variable stands that is declared again: the first such, or this one where there was none and it is one
+abbrev pub again_with : Option Span → Bool → Span → Option Span
+again_with (Some first) again found = Some first
+again_with None true found = Some found
+again_with None false found = None
 
 -- the declarations so far, and one more
-abbrev pub seen_with : Seen → ℕ → ℕ → ℕ → Bool → ℕ → Seen
-seen_with s variable first last provisional next = record {
-  at = next;
-  declared = put (variable % width) true s.declared;
-  marks = put (variable % width) provisional s.marks;
-  start = cond (eqb s.end 0 && has s.declared (variable % width)) first s.start;
-  end = cond (eqb s.end 0 && has s.declared (variable % width)) last s.end;
+abbrev pub seen_with : Seen → Declared → Seen
+seen_with s d = record {
+  at = d.next;
+  declared = put (d.variable % width) true s.declared;
+  marks = put (d.variable % width) d.provisional s.marks;
+  again = again_with s.again (has s.declared (d.variable % width)) d.name;
 }
 
 -- the variables that the declarations declare, and those declared before them
@@ -71,9 +76,11 @@ declared_from seen [] = seen
 declared_from seen (d ∷ ds) = declared_from (put d.variable true seen) ds
 
 -- the first of these words stands there, and where there is none, nothing does
-abbrev pub StandsAt : List Word → ℕ → ℕ → Type 0
-StandsAt [] first last = (first ≡ 0) × (last ≡ 0)
-StandsAt (w ∷ words) first last = (first ≡ w.start) × (last ≡ first + length w.bytes) × (first < last)
+abbrev pub StandsAt : List Word → Option Span → Type 0
+StandsAt [] None = Unit {0}
+StandsAt [] (Some s) = ⊥
+StandsAt (w ∷ words) None = ⊥
+StandsAt (w ∷ words) (Some s) = (s.start ≡ w.start) × (s.end ≡ s.start + length w.bytes) × (s.start < s.end)
 
 -- These declarations stand at the front of the text.
 pub record Declarations (text : List ℕ) (s : Seen) : Type 0 where
@@ -82,11 +89,11 @@ pub record Declarations (text : List ℕ) (s : Seen) : Type 0 where
   pub later : Later text 0 s.at
   pub declared : s.declared ≡ declared_from none declarations
   pub marks : s.marks ≡ marks_from false none declarations
-  pub again : StandsAt (repeated none declarations (from text 0)) s.start s.end
+  pub again : StandsAt (repeated none declarations (from text 0)) s.again
   pub inside : s.at ≤ length text
 
 -- the declarations are over: no further one follows
-abbrev pub HeadRead : List ℕ → Head → Type 0
-HeadRead text (Head.Over s) =
+abbrev pub HeadRead : List ℕ → Result Seen ℕ → Type 0
+HeadRead text (Ok s) =
     Declarations text s × Missing text s.at token.input
-HeadRead text (Head.Faulty place) = Stuck text 0 (start ∷ []) place
+HeadRead text (Err place) = Stuck text 0 (start ∷ []) place

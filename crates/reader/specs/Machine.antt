@@ -4,7 +4,7 @@ use Rattle.std.specs.Prelude.{ℕ, ◌+◌, Bool, true, false, cond, ◌||◌, �
 use Rattle.rules.specs.declared.Operator.{Operator}
 use Rattle.language.specs.Tokens as word
 use Rattle.language.specs.Tokens.{Token}
-use Rattle.language.specs.Tables.{operator_number}
+use Rattle.rules.specs.Trees.{operator_number}
 
 -- a number for each word, but one for all numbers and one for all variables
 unfoldable pub tag : Token → ℕ

@@ -1,5 +1,5 @@
 -- What the readers of statements say: of a word that is to stand at a place, and of a statement after its first word.
-use Rattle.std.specs.Prelude.{ℕ, ◌+◌, ◌≤◌, ◌<◌, Bool, true, false, ◌&&◌, List, [], ◌∷◌, ◌≡◌, length, get_or}
+use Rattle.std.specs.Prelude.{Result, Ok, Err, ℕ, ◌+◌, ◌≤◌, ◌<◌, Bool, true, false, ◌&&◌, List, [], ◌∷◌, ◌≡◌, length, get_or}
 use Rattle.language.specs.Words.{is_blank, is_joining}
 use Rattle.language.specs.Tokens as word
 use Rattle.language.specs.Tokens.{Token, same, token_of, tokens}
@@ -7,8 +7,7 @@ use Rattle.spans.specs.Cut.{from, part, Begun, Cut}
 use Rattle.spans.specs.declared.Span.{Span}
 use Rattle.reader.specs.Machine.{is_word, statement}
 use Rattle.reader.specs.Steps.{statements, Later, Missing, Stepped}
-use Rattle.reader.specs.declared.expressions.Step.{Step}
-use Rattle.reader.specs.declared.words.Found.{Found}
+use Rattle.reader.specs.declared.expressions.Place.{Place}
 
 -- a key that is one word: letters and digits, or a single byte
 abbrev pub all_joining : List ℕ → Bool
@@ -41,31 +40,31 @@ pub record Led (text : List ℕ) (at : ℕ) (t : Token) (next : ℕ) : Type 0 wh
   pub inside : next ≤ length text
 
 -- This word stands at a place, or is missing there; then the place after the blanks is told.
-abbrev pub Expected : List ℕ → ℕ → Token → Found → Type 0
-Expected text at t (Found.Next next) = Led text at t next
-Expected text at t (Found.Missing here) = Missing text at t × Begun text at here
+abbrev pub Expected : List ℕ → ℕ → Token → Result ℕ ℕ → Type 0
+Expected text at t (Ok next) = Led text at t next
+Expected text at t (Err here) = Missing text at t × Begun text at here
 
 -- what is said of the word at a place, whichever word the key is
-abbrev pub Looked : List ℕ → ℕ → List ℕ → Found → Type 0
+abbrev pub Looked : List ℕ → ℕ → List ℕ → Result ℕ ℕ → Type 0
 Looked text at key r = (t : Token) → Spells key t → Expected text at t r
 
--- what reading a word after what a step has read makes of the step
-abbrev pub EndedAt : List ℕ → ℕ → ℕ → Token → Step → Type 0
-EndedAt text at count t (Step.Next next total) = (total ≡ count) × Led text at t next
-EndedAt text at count t (Step.Faulty place) = (place ≡ at) × Missing text at t
+-- what comes of reading a word after what was read
+abbrev pub EndedAt : List ℕ → Place → Token → Result Place ℕ → Type 0
+EndedAt text read t (Ok next) = (next.count ≡ read.count) × Led text read.at t next.at
+EndedAt text read t (Err place) = (place ≡ read.at) × Missing text read.at t
 
-abbrev pub Ended : List ℕ → List ℕ → Step → Step → Type 0
-Ended text key (Step.Next at count) r = (t : Token) → Spells key t → EndedAt text at count t r
-Ended text key (Step.Faulty place) r = r ≡ Step.Faulty place
+abbrev pub Ended : List ℕ → List ℕ → Place → Result Place ℕ → Type 0
+Ended text key read r = (t : Token) → Spells key t → EndedAt text read t r
 
--- what a step says of a statement after its first word: the statement begins wherever that word leads here
-abbrev pub After : Token → List ℕ → ℕ → ℕ → List ℕ → Step → List ℕ → Type 0
-After t text next count rows r left = (at : ℕ) → Led text at t next → Stepped statements (statement ∷ []) text at count rows r left
+-- what is said of a statement after its first word: the statement begins wherever that word leads here
+abbrev pub After : Token → List ℕ → Place → List ℕ → Result Place ℕ → List ℕ → Type 0
+After t text from rows r left =
+    (at : ℕ) → Led text at t from.at → Stepped statements (statement ∷ []) text (record { at = at; count = from.count }) rows r left
 
 -- the first word of an output, and its channel
 pub data Outputs : Token → ℕ → Type 0 where
   settled : Outputs word.settled 0
   provisional : Outputs word.provisional 1
 
-abbrev pub OutputAfter : ℕ → List ℕ → ℕ → ℕ → List ℕ → Step → List ℕ → Type 0
-OutputAfter channel text next count rows r left = (t : Token) → Outputs t channel → After t text next count rows r left
+abbrev pub OutputAfter : ℕ → List ℕ → Place → List ℕ → Result Place ℕ → List ℕ → Type 0
+OutputAfter channel text from rows r left = (t : Token) → Outputs t channel → After t text from rows r left

@@ -2,7 +2,7 @@
 use Rattle.std.specs.Prelude.{ℕ, ◌-◌, ◌*◌, ◌≤◌, false, List, ◌≡◌, take}
 use Rattle.rules.specs.Limits.{row_words, most_rows}
 use Rattle.rules.specs.Marks.{none}
-use Rattle.language.specs.declared.Said.{Said}
+use Rattle.language.specs.Said.{Said}
 use Rattle.language.specs.Limits.{faulty_word}
 use Rattle.language.specs.Recipes.{Recipe}
 use Rattle.language.specs.Tables.{block_size, table_of, marks_of}
@@ -25,6 +25,6 @@ answered said table = record { said = said; table = table }
 -- what is answered where a text is a recipe, whose declarations were seen and whose rows stand at the front of these
 abbrev pub Made : List ℕ → Seen → List ℕ → ℕ → List ℕ → Said → List ℕ → Type 0
 Made text s rows count table said left =
-    (r : Recipe) → StandsAt (repeated none r.declarations (words_of text)) s.start s.end → s.marks ≡ marks_of false r.declarations
+    (r : Recipe) → StandsAt (repeated none r.declarations (words_of text)) s.again → s.marks ≡ marks_of false r.declarations
     → count ≡ block_size r.block → (block_size r.block ≤ most_rows → take (count * row_words) rows ≡ table_of r)
     → answered said left ≡ reading_of false text r table

@@ -8,144 +8,114 @@ mod put;
 mod statements;
 mod words;
 
-ghost use Rattle.std.specs.Prelude.{false, ◌≡◌, ◌-◌, ◌≤◌, length};
+ghost use Rattle.std.specs.Prelude.{false, ◌≡◌, ◌≤◌, length};
 ghost use Rattle.language.specs.Limits.{most_text_bytes};
-ghost use Rattle.language.specs.Readings.{Reads};
-ghost use Rattle.reader.specs.declared.head.Head.{Head};
-ghost use Rattle.reader.specs.Frames.{most_held};
+ghost use Rattle.language.specs.Answers.{said_of};
+ghost use Rattle.language.specs.Readings.{Reads, end_of, part_at};
+ghost use Rattle.spans.specs.Cut.{from};
 ghost use Rattle.reader.specs.Heads.{HeadRead};
-ghost use Rattle.rules.specs.Limits.{table_words};
-ghost use Rattle.reader.specs.Wholes.{turned_away, blamed, Made};
+ghost use Rattle.reader.specs.Wholes.{Made};
 
-use crate::expressions::{MOST_HELD, MOST_TEXT, Step};
-use crate::head::{Head, Seen, read_head};
+use crate::expressions::{Arrays, MOST_HELD, MOST_TEXT, Place};
+use crate::head::{Seen, read_head};
 use crate::statements::read_block;
-use language::{Part, Said};
+use language::{Flaw, Part, Recipe, Unread};
 use leaves::copy::copy_words;
-use rules::{Judged, MOST_ROWS, ROW_WORDS, TABLE_WORDS};
+use rules::{MOST_ROWS, ROW_WORDS, TABLE_WORDS};
 use spans::word_at;
 use table::judge;
 
-const TOO_LONG: u32 = 9;
-
-const FAULTY_WORD: u32 = 10;
-
-const DECLARED_AGAIN: u32 = 11;
-
-const TOO_MANY_ROWS: u32 = 12;
-
-const TABLE_TOO_SHORT: u32 = 13;
-
-// How many bytes stand from a place to another.
-fn between(start: usize, end: usize) -> usize
-    ensures { result ≡ end - start }
+// Where no recipe goes on with the first word from a place on.
+fn faulty(text: &[u8], place: usize) -> Unread
+    ensures { result ≡ record { flaw = Flaw.FaultyWord; part = part_at text.now (from text.now place) } }
 {
-    if end < start {
-        return 0;
+    Unread {
+        flaw: Flaw::FaultyWord,
+        part: Part::from(word_at(text, place)),
     }
-    end - start
 }
 
-// What a refusal says, with the part from a place to another.
-fn refused(number: u32, at: u32, start: usize, end: usize) -> Said
-    ensures { result ≡ turned_away number at start end }
+// A refusal that hands back the empty part at the text's end.
+fn at_end(text: &[u8], flaw: Flaw) -> Unread
+    ensures { result ≡ record { flaw = flaw; part = end_of text.now } }
 {
-    Said {
-        refusal: number,
-        at,
-        rows: 0,
-        marks: 0,
+    Unread {
+        flaw,
         part: Part {
-            start,
-            size: between(start, end),
+            start: text.len(),
+            size: 0,
         },
     }
 }
 
-// What is said where no recipe goes on with the first word from a place on.
-fn faulty(text: &[u8], place: usize) -> Said
-    ensures { result ≡ blamed text.now place }
-{
-    let w = word_at(text, place);
-    refused(FAULTY_WORD, 0, w.start, w.end)
-}
-
 // The answer to a text that is a recipe, from its declarations and its rows.
-fn finish(text: &[u8], s: Seen, rows: &[u32], count: u32, table: &mut [u32]) -> Said
-    requires { length rows.now ≡ table_words }
-    ensures { Made text.now s rows.now count table.old result table.new }
+fn finish(
+    text: &[u8],
+    s: Seen,
+    rows: &[u32; TABLE_WORDS],
+    count: u32,
+    table: &mut [u32],
+) -> Result<Recipe, Unread>
+    ensures { Made text.now s rows.now count table.old (said_of text.now result) table.new }
 {
-    if s.end != 0 {
-        return refused(DECLARED_AGAIN, 0, s.start, s.end);
+    if let Some(name) = s.again {
+        return Err(Unread {
+            flaw: Flaw::DeclaredAgain,
+            part: Part::from(name),
+        });
     }
     if count as usize > MOST_ROWS {
-        return refused(TOO_MANY_ROWS, 0, text.len(), text.len());
+        return Err(at_end(text, Flaw::TooManyRows));
     }
     let words = count as usize * ROW_WORDS;
-    let judged = judge(&rows[..words]);
-    match judged {
-        Judged::Refused { number, row } => refused(number, row, text.len(), text.len()),
-        Judged::Accepted => {
-            if table.len() < words {
-                return refused(TABLE_TOO_SHORT, 0, text.len(), text.len());
-            }
-            copy_words(rows, words, table);
-            Said {
-                refusal: 0,
-                at: 0,
-                rows: count,
-                marks: s.marks,
-                part: Part {
-                    start: text.len(),
-                    size: 0,
-                },
-            }
-        }
+    if let Err(refusal) = judge(&rows[..words]) {
+        return Err(at_end(text, Flaw::Refused(refusal)));
     }
+    if table.len() < words {
+        return Err(at_end(text, Flaw::TableTooShort));
+    }
+    copy_words(rows, words, table);
+    Ok(Recipe {
+        rows: count,
+        marks: s.marks,
+    })
 }
 
 // Reads the block of a text after its declarations, and answers.
-fn read_body(
-    text: &[u8],
-    s: Seen,
-    rows: &mut [u32; TABLE_WORDS],
-    held: &mut [u16; MOST_HELD],
-    table: &mut [u32],
-) -> Said
-    requires { (length text.now ≤ most_text_bytes) × HeadRead text.now (Head.Over s) × (length rows.old ≡ table_words)
-        × (length held.old ≡ most_held) }
-    ensures { Reads false text.now table.old (record { said = result; table = table.new }) }
+fn read_body(text: &[u8], s: Seen, arrays: &mut Arrays, table: &mut [u32]) -> Result<Recipe, Unread>
+    requires { (length text.now ≤ most_text_bytes) × HeadRead text.now (Ok s) }
+    ensures { Reads false text.now table.old (record { said = said_of text.now result; table = table.new }) }
 {
-    let block = read_block(text, s.at, 0, rows, held);
-    match block {
-        Step::Faulty(place) => faulty(text, place),
-        Step::Next { at, count } => {
-            let w = word_at(text, at);
-            let start = w.start;
-            let end = w.end;
-            if start < end {
-                return refused(FAULTY_WORD, 0, start, end);
-            }
-            finish(text, s, rows, count, table)
-        }
+    let from = Place { at: s.at, count: 0 };
+    let read = match read_block(text, from, arrays) {
+        Ok(read) => read,
+        Err(place) => return Err(faulty(text, place)),
+    };
+    let rest = word_at(text, read.at);
+    if rest.start < rest.end {
+        return Err(Unread {
+            flaw: Flaw::FaultyWord,
+            part: Part::from(rest),
+        });
     }
+    finish(text, s, &arrays.rows, read.count, table)
 }
 
 // Reads a recipe's text into a table: how many rows it has and its start marks; or a refusal, and then the table is as it was lent.
 // 13.8: .. neither means settled.
-pub fn read_text(text: &[u8], table: &mut [u32]) -> Said
-    ensures { Reads false text.now table.old (record { said = result; table = table.new }) }
+pub fn read_text(text: &[u8], table: &mut [u32]) -> Result<Recipe, Unread>
+    ensures { Reads false text.now table.old (record { said = said_of text.now result; table = table.new }) }
 {
     if text.len() > MOST_TEXT {
-        return refused(TOO_LONG, 0, text.len(), text.len());
+        return Err(at_end(text, Flaw::TooLong));
     }
-    let head = read_head(text);
-    match head {
-        Head::Faulty(place) => faulty(text, place),
-        Head::Over(s) => {
-            let mut held = [0; MOST_HELD];
-            let mut rows = [0; TABLE_WORDS];
-            read_body(text, s, &mut rows, &mut held, table)
-        }
-    }
+    let s = match read_head(text) {
+        Ok(s) => s,
+        Err(place) => return Err(faulty(text, place)),
+    };
+    let mut arrays = Arrays {
+        rows: [0; TABLE_WORDS],
+        held: [0; MOST_HELD],
+    };
+    read_body(text, s, &mut arrays, table)
 }

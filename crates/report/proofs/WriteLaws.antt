@@ -1,17 +1,19 @@
--- Laws of writing: a run of stores, what is left of a text to be written, and the digits of a number.
+-- Laws of writing: a run of stores, what the writer's methods put one after the other, and the digits of a number.
 use Prim.Native.Nat.{ℕ, suc, ◌+◌, ◌/◌, ◌%◌, ◌^◌, ◌≤◌, ◌<◌}
 use native.Mathlib.Nat.{add-zero, add-suc, suc-add}
-use native.Mathlib.Numerals.{add-one}
 use native.Mathlib.Omega.{arith}
-use mathlib.Core.List.{List, [], ◌∷◌, ◌++◌}
+use mathlib.Core.List.{List, [], ◌∷◌, ◌++◌, append_assoc}
 use mathlib.Core.Path.{◌≡◌, refl, sym, ap, ap₂, ◌∙◌, subst}
-use lib.ListN.{length, get_or, set, drop, length-append, drop_of_length-le}
-use lib.Seq.{sets}
+use borrow.Rule.Slice.PartMut.{put_mid, post_of}
+use lib.ListN.{length, set, take, length-append}
+use lib.Seq.{sets, sets-eq}
+use Rattle.std.proofs.lemmas.List.{drop-drop}
 use Rattle.lines.specs.Limits.{most_digits}
 use Rattle.lines.specs.Numbers.{zero_byte, decimal}
-use Rattle.lines.proofs.NumberLaws.{drop_next}
 use Rattle.lines.proofs.DecimalLaws.{decimal_small, decimal_more, decimal_few}
 use Rattle.report.specs.Written.{Placed}
+use Rattle.report.specs.declared.Writer.{Writer}
+use Rattle.report.specs.Putting.{Puts}
 
 -- ---- a run of stores
 
@@ -21,53 +23,9 @@ sets_append l i (x ∷ xs) ys =
     ap (λ (k : ℕ). sets (sets (set l i x) (suc i) xs) k ys) (add-suc i (length xs) ∙ sym (suc-add i (length xs)))
     ∙ sets_append (set l i x) (suc i) xs ys
 
-pub sets_one : (l : List ℕ) (i : ℕ) (xs : List ℕ) (x : ℕ) → set (sets l i xs) (i + length xs) x ≡ sets l i (xs ++ (x ∷ []))
-sets_one l i xs x = sets_append l i xs (x ∷ [])
+-- ---- bytes that are put one after the other
 
--- ---- what is left of a text: writing it from here on leaves what writing the whole text from the start leaves
-
-pub record Leads (out : List ℕ) (at : ℕ) (rest : List ℕ) (out₀ : List ℕ) (at₀ : ℕ) (whole : List ℕ) : Type 0 where
-  pub place : at + length rest ≡ at₀ + length whole
-  pub kept : sets out at rest ≡ sets out₀ at₀ whole
-
-pub leads_start : (out : List ℕ) (at : ℕ) (whole : List ℕ) → Leads out at whole out at whole
-leads_start out at whole = record { place = refl; kept = refl }
-
-module _ {out : List ℕ} {at : ℕ} {out₀ : List ℕ} {at₀ : ℕ} {whole : List ℕ} where
-  pub leads_step : {most next : ℕ} {left : List ℕ} (xs rest : List ℕ) → Leads out at (xs ++ rest) out₀ at₀ whole
-      → Placed out at xs most next left → Leads left next rest out₀ at₀ whole
-  leads_step {most} {next} {left} xs rest l p = record {
-    place = (let n = length-append xs rest in omega (arith, l.place, p.place, n));
-    kept =
-        ap₂ (λ (o : List ℕ) (k : ℕ). sets o k rest) p.kept p.place
-        ∙ sets_append out at xs rest
-        ∙ l.kept;
-  }
-
-  pub leads_end : (most : ℕ) → Leads out at [] out₀ at₀ whole → length whole ≤ most → Placed out₀ at₀ whole most at out
-  leads_end most l few = record { place = sym (add-zero at) ∙ l.place; few = few; kept = l.kept }
-
--- a text is written byte by byte, from its byte j on
-pub leads_byte : {out : List ℕ} {i : ℕ} {out₀ : List ℕ} {at₀ : ℕ} {whole : List ℕ} (text : List ℕ) (j : ℕ) → j < length text
-    → Leads out i (drop j text) out₀ at₀ whole → Leads (set out i (get_or text j 0)) (i + 1) (drop (j + 1) text) out₀ at₀ whole
-leads_byte {out} {i} text j h l =
-    let e = drop_next text j h in
-    record {
-      place = omega (arith, l.place, ap length e);
-      kept =
-          ap (λ (k : ℕ). sets (set out i (get_or text j 0)) k (drop (j + 1) text)) (add-one i)
-          ∙ sym (ap (sets out i) e)
-          ∙ l.kept;
-    }
-
-pub leads_bytes : {out : List ℕ} {i : ℕ} {out₀ : List ℕ} {at₀ : ℕ} (text : List ℕ) (j : ℕ) → length text ≤ j
-    → Leads out i (drop j text) out₀ at₀ text → Placed out₀ at₀ text (length text) i out
-leads_bytes {out} {i} {out₀} {at₀} text j h l =
-    leads_end (length text)
-    (subst (λ (rest : List ℕ). Leads out i rest out₀ at₀ text) (drop_of_length-le text h) l)
-    (omega arith)
-
-pub placed_then : {out : List ℕ} {at : ℕ} {most next : ℕ} {left : List ℕ} {more after : ℕ} {last : List ℕ} (xs ys : List ℕ)
+placed_then : {out : List ℕ} {at : ℕ} {most next : ℕ} {left : List ℕ} {more after : ℕ} {last : List ℕ} (xs ys : List ℕ)
     → Placed out at xs most next left → Placed left next ys more after last → Placed out at (xs ++ ys) (most + more) after last
 placed_then {out} {at} xs ys p q =
     let n = length-append xs ys in
@@ -77,33 +35,50 @@ placed_then {out} {at} xs ys p q =
       kept = q.kept ∙ ap₂ (λ (o : List ℕ) (k : ℕ). sets o k ys) p.kept p.place ∙ sets_append out at xs ys;
     }
 
--- ---- the digits of a number as they are put
+pub puts_none : (w : Writer) → Puts w w [] 0
+puts_none w = record { placed = record { place = sym (add-zero w.at); few = omega arith; kept = refl }; long = refl; same = refl }
 
-pub placed_small : (out : List ℕ) (at n : ℕ) → n < 10 → Placed out at (decimal n) most_digits (at + 1) (set out at (zero_byte + n))
-placed_small out at n h =
-    let e = decimal_small n h in
-    record {
-      place = omega (arith, ap length e);
-      few = omega (arith, ap length e);
-      kept = sym (ap (sets out at) e);
-    }
+pub puts_then : {w₀ w₁ w₂ : Writer} {most more : ℕ} (xs ys : List ℕ) → Puts w₀ w₁ xs most → Puts w₁ w₂ ys more → Puts w₀ w₂ (xs ++ ys) (most + more)
+puts_then xs ys p q = record {
+  placed = placed_then xs ys p.placed q.placed;
+  long = q.long ∙ p.long;
+  same = q.same ∙ p.same;
+}
 
-pub placed_more : (out : List ℕ) (at n last : ℕ) (left : List ℕ) → 10 ≤ n → n < 2 ^ 32
-    → Placed out at (decimal (n / 10)) most_digits last left
-    → Placed out at (decimal n) most_digits (last + 1) (set left last (zero_byte + n % 10))
-placed_more out at n last left h small p =
-    let e = decimal_more n h in
-    let k = length-append (decimal (n / 10)) ((zero_byte + n % 10) ∷ []) in
-    record {
-      place = omega (arith, ap length e, p.place, k);
-      few = decimal_few n small;
-      kept =
-          ap₂ (λ (o : List ℕ) (i : ℕ). set o i (zero_byte + n % 10)) p.kept p.place
-          ∙ sets_one out at (decimal (n / 10)) (zero_byte + n % 10)
-          ∙ sym (ap (sets out at) e);
-    }
+pub puts_as : {w₀ w₁ : Writer} {most more : ℕ} {xs ys : List ℕ} → xs ≡ ys → most ≡ more → Puts w₀ w₁ xs most → Puts w₀ w₁ ys more
+puts_as {w₀} {w₁} {most} {more} {xs} {ys} e n p =
+    subst (λ (k : ℕ). Puts w₀ w₁ ys k) n (subst (λ (bytes : List ℕ). Puts w₀ w₁ bytes most) e p)
 
--- the last digit's place
-pub placed_room : (n : ℕ) → 10 ≤ n → n < 2 ^ 32 → length (decimal (n / 10)) < most_digits
-placed_room n h small =
+-- bytes that are no more than most
+pub puts_within : {w₀ w₁ : Writer} {most more : ℕ} {xs ys : List ℕ} → xs ≡ ys → length ys ≤ more → Puts w₀ w₁ xs most → Puts w₀ w₁ ys more
+puts_within {w₀} {w₁} {most} e few p =
+    let q = subst (λ (bytes : List ℕ). Puts w₀ w₁ bytes most) e p in
+    record { placed = record { place = q.placed.place; few = few; kept = q.placed.kept }; long = q.long; same = q.same }
+
+-- bytes that were copied over a part of the buffer
+pub placed_copy : (out bytes : List ℕ) (at : ℕ) → at + length bytes ≤ length out
+    → Placed out at bytes (length bytes) (at + length bytes) (put_mid at (length bytes) out bytes)
+placed_copy out bytes at h = record {
+  place = refl;
+  few = omega arith;
+  kept =
+      sym (append_assoc (take at out) bytes (post_of at (length bytes) out))
+      ∙ ap (λ (rest : List ℕ). (take at out ++ bytes) ++ rest) (drop-drop (length bytes) at out)
+      ∙ sym (sets-eq bytes out at h);
+}
+
+-- ---- the digits of a number
+
+-- the place of the last digit
+pub digits_room : (n : ℕ) → 10 ≤ n → n < 2 ^ 32 → length (decimal (n / 10)) < most_digits
+digits_room n h small =
     omega (arith, ap length (decimal_more n h), decimal_few n small, length-append (decimal (n / 10)) ((zero_byte + n % 10) ∷ []))
+
+pub puts_small : {w₀ w₁ : Writer} (n : ℕ) → n < 10 → Puts w₀ w₁ ((zero_byte + n % 10) ∷ []) 1 → Puts w₀ w₁ (decimal n) most_digits
+puts_small n h p =
+    puts_within (ap (λ (d : ℕ). (zero_byte + d) ∷ []) (omega arith) ∙ sym (decimal_small n h)) (decimal_few n (omega arith)) p
+
+pub puts_more : {w₀ w₁ w₂ : Writer} (n : ℕ) → 10 ≤ n → n < 2 ^ 32 → Puts w₀ w₁ (decimal (n / 10)) most_digits
+    → Puts w₁ w₂ ((zero_byte + n % 10) ∷ []) 1 → Puts w₀ w₂ (decimal n) most_digits
+puts_more n h small p q =
+    puts_within (sym (decimal_more n h)) (decimal_few n small) (puts_then (decimal (n / 10)) ((zero_byte + n % 10) ∷ []) p q)

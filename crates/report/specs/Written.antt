@@ -1,12 +1,12 @@
 -- What a report leaves in a buffer that is lent for it, and what the writer answers.
-use Rattle.std.specs.Prelude.{ℕ, zero, suc, ◌+◌, ◌*◌, ◌≤◌, Bool, true, false, ◌≡◌, List, [], ◌∷◌, ◌++◌, leb, length, drop}
+use Rattle.std.specs.Prelude.{ℕ, zero, suc, ◌+◌, ◌*◌, ◌≤◌, Bool, true, false, ◌≡◌, List, [], ◌∷◌, ◌++◌, leb, length, drop, Result, Ok, Err}
 use lib.Seq.{sets}
 use Rattle.rules.specs.declared.Ended.{Ended}
 use Rattle.rules.specs.declared.Answer.{Answer}
 use Rattle.rules.specs.Limits.{width, record_words}
 use Rattle.rules.specs.Running.{Record}
-use Rattle.rules.specs.Answers.{said_of_run, because_of, Whole}
-use Rattle.report.specs.declared.Wrote.{Wrote}
+use Rattle.rules.specs.Answers.{number_of, said_of_run, because_of, Whole}
+use Rattle.report.specs.declared.Unwritten.{Unwritten}
 use Rattle.lines.specs.Limits.{most_digits}
 use Rattle.lines.specs.Lines.{comma, line_end, levels_key}
 use Rattle.report.specs.Reports.{refused_key, at_key, verdict_key, place_key, because_key, steps_key, marked_key, mem_key, records_key, out_key, refusal_text, report}
@@ -50,10 +50,10 @@ pub data WroteSaid : Type 0 where
   lacking : WroteSaid
 
 -- 10.11: Where a function answers with an enum, a definition gives these rules' numbers and values for each of its cases.
-abbrev pub said_of_wrote : Wrote → WroteSaid
-said_of_wrote (Wrote.Bytes count) = bytes count
-said_of_wrote Wrote.TooShort = too_short
-said_of_wrote Wrote.Lacking = lacking
+abbrev pub said_of_wrote : Result ℕ Unwritten → WroteSaid
+said_of_wrote (Ok count) = bytes count
+said_of_wrote (Err Unwritten.TooShort) = too_short
+said_of_wrote (Err Unwritten.Lacking) = lacking
 
 -- what is said, and the buffer afterwards
 pub record Written : Type 0 where
@@ -103,7 +103,7 @@ ended_written Ended.Done a trace out = run_written a.records (report (whole_of a
 ended_written (Ended.Stopped row because) a trace out = run_written a.records (report (whole_of a trace)) trace out
 ended_written Ended.Spent a trace out = run_written a.records (report (whole_of a trace)) trace out
 ended_written (Ended.NoRoom row) a trace out = run_written a.records (report (whole_of a trace)) trace out
-ended_written (Ended.Refused number row) a trace out = refusal_written number row out
+ended_written (Ended.Refused refusal) a trace out = refusal_written (number_of refusal.fault) refusal.row out
 
 unfoldable pub report_written : Answer → List ℕ → List ℕ → Written
 report_written a trace out = ended_written a.ended a trace out

@@ -2,27 +2,9 @@
 #![tactic(auto)]
 
 ghost use Rattle.std.specs.Prelude.{◌≡◌, ◌<◌, ltb, length};
-ghost use Rattle.rules.specs.Rows.{kind_of, rows_of, row_at};
+ghost use Rattle.rules.specs.Rows.{rows_of, row_at};
 
 use rules::{Kind, ROW_WORDS, Row};
-
-// The kind that a row's first word says.
-fn kind_of(word: u32) -> Kind
-    ensures { result ≡ kind_of word }
-{
-    match word {
-        0 => Kind::Skip,
-        1 => Kind::Assign,
-        2 => Kind::Sequence,
-        3 => Kind::If,
-        4 => Kind::While,
-        5 => Kind::Output,
-        8 => Kind::Constant,
-        9 => Kind::Variable,
-        10 => Kind::Binary,
-        _ => Kind::Unknown,
-    }
-}
 
 // The row of a number, for callers that know that the table has it.
 pub fn read_row(table: &[u32], row: u32) -> Row
@@ -31,7 +13,7 @@ pub fn read_row(table: &[u32], row: u32) -> Row
 {
     let at = row as usize * ROW_WORDS;
     Row {
-        kind: kind_of(table[at]),
+        kind: Kind::from(table[at]),
         p: table[at + 1],
         q: table[at + 2],
         r: table[at + 3],

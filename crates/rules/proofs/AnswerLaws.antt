@@ -3,6 +3,7 @@
 use Prim.Native.Nat.{ℕ, ◌/◌, ◌≤◌, ◌<◌}
 use mathlib.Core.Bool.{Bool, true, false, cond}
 use mathlib.Core.List.{List, [], ◌∷◌, ◌++◌}
+use Rattle.std.specs.Prelude.{Result, Ok, Err}
 use mathlib.Core.Path.{◌≡◌, refl, sym, ap, ap₂, ◌∙◌}
 use lib.Dec.{eqb, ltb}
 use lib.ListN.{length, drop}
@@ -10,7 +11,8 @@ use borrow.Author.Tests.{lt-ltb, le-ltb}
 use denote.Enum.Declared.{tag_of}
 use types.Run.{OneOf, miss}
 use Rattle.rules.specs.contracts.Ended as ended-type
-use Rattle.rules.specs.declared.Judged.{Judged}
+use Rattle.rules.specs.declared.Fault.{Fault}
+use Rattle.rules.specs.declared.Refusal.{Refusal}
 use Rattle.rules.specs.declared.Ended.{Ended}
 use Rattle.rules.specs.declared.Checked.{Checked}
 use Rattle.rules.specs.declared.Answer.{Answer}
@@ -18,10 +20,11 @@ use Rattle.rules.specs.Limits.{record_words, most_trace_words}
 use Rattle.rules.specs.Marks.{none}
 use Rattle.rules.specs.Rows.{rows_of}
 use Rattle.rules.specs.Trees.{recipe}
+use Rattle.rules.specs.Judged.{Judged}
 use Rattle.rules.specs.Judging.{or_else, judge, judge_trace}
 use Rattle.rules.specs.Running.{statement, State, state, blank, start, Record}
 use Rattle.rules.specs.LevelCheck.{walk, checked_of}
-use Rattle.rules.specs.Answers.{Told, Said, accepted, refused, verdict, pass, fail, said_of_judge, said_of_run, because_of, said_of_check, Whole, Inputs, inputs, final, admitted, answered, terms_of, answer, trace_words_of, trace_after, advised, advice, judgement, told_of, telling}
+use Rattle.rules.specs.Answers.{Told, Said, accepted, refused, verdict, pass, fail, number_of, judged_of, said_of_judge, said_of_run, because_of, said_of_check, Whole, Inputs, inputs, final, admitted, answered, terms_of, answer, trace_words_of, trace_after, advised, advice, judgement, told_of, telling}
 use Rattle.rules.specs.Sound.{Sound}
 use Rattle.rules.proofs.MarkLaws.{none_zero}
 use Rattle.rules.proofs.JudgeLaws.{or_else_accepted, accepted_sound}
@@ -110,7 +113,7 @@ because_none Ended.Done among = none_zero
 because_none (Ended.Stopped row because) among = absurd (miss (0 ∷ 2 ∷ 3 ∷ 4 ∷ []) 1 tt among)
 because_none Ended.Spent among = none_zero
 because_none (Ended.NoRoom row) among = none_zero
-because_none (Ended.Refused number row) among = none_zero
+because_none (Ended.Refused refusal) among = none_zero
 
 -- ---- what an answer tells
 
@@ -178,12 +181,48 @@ unfolding judged_back
 judged_back_lem Judged.Accepted = refl
 judged_back_lem (Judged.Refused number row) = refl
 
-pub judged_unique : (a b : Judged) → said_of_judge a ≡ said_of_judge b → a ≡ b
+judged_unique : (a b : Judged) → said_of_judge a ≡ said_of_judge b → a ≡ b
 judged_unique a b e = sym (judged_back_lem a) ∙ ap judged_back e ∙ judged_back_lem b
+
+fault_back : ℕ → Fault
+fault_back number =
+    cond (eqb number 1) Fault.WrongCount
+    (cond (eqb number 2) Fault.WrongWord
+    (cond (eqb number 3) Fault.WrongChild
+    (cond (eqb number 4) Fault.WrongParents (cond (eqb number 5) Fault.TooDeep Fault.LongTrace))))
+
+fault_back_lem : (fault : Fault) → fault_back (number_of fault) ≡ fault
+unfolding fault_back
+fault_back_lem Fault.WrongCount = refl
+fault_back_lem Fault.WrongWord = refl
+fault_back_lem Fault.WrongChild = refl
+fault_back_lem Fault.WrongParents = refl
+fault_back_lem Fault.TooDeep = refl
+fault_back_lem Fault.LongTrace = refl
+
+pub refusal_back : ℕ → ℕ → Refusal
+refusal_back number row = record { fault = fault_back number; row = row }
+
+pub refusal_back_lem : (refusal : Refusal) → refusal_back (number_of refusal.fault) refusal.row ≡ refusal
+unfolding refusal_back
+refusal_back_lem refusal = λ i. record { fault = fault_back_lem refusal.fault i; row = refusal.row }
+
+judge_back : Judged → Result (Unit {0}) Refusal
+judge_back Judged.Accepted = Ok tt
+judge_back (Judged.Refused number row) = Err (refusal_back number row)
+
+judge_back_lem : (a : Result (Unit {0}) Refusal) → judge_back (judged_of a) ≡ a
+unfolding judge_back
+judge_back_lem (Ok done) = refl
+judge_back_lem (Err refusal) = ap Err (refusal_back_lem refusal)
+
+pub judge_unique : (a b : Result (Unit {0}) Refusal) → said_of_judge (judged_of a) ≡ said_of_judge (judged_of b) → a ≡ b
+judge_unique a b e =
+    sym (judge_back_lem a) ∙ ap judge_back (judged_unique (judged_of a) (judged_of b) e) ∙ judge_back_lem b
 
 ended_back : Said → ℕ → Ended
 ended_back accepted because = Ended.Done
-ended_back (refused number row) because = Ended.Refused number row
+ended_back (refused number row) because = Ended.Refused (refusal_back number row)
 ended_back (verdict number place) because =
     cond (eqb number 0) Ended.Done
     (cond (eqb number 1) (Ended.Stopped place because) (cond (eqb number 2) Ended.Spent (Ended.NoRoom place)))
@@ -196,14 +235,14 @@ ended_back_lem Ended.Done = refl
 ended_back_lem (Ended.Stopped row because) = refl
 ended_back_lem Ended.Spent = refl
 ended_back_lem (Ended.NoRoom row) = refl
-ended_back_lem (Ended.Refused number row) = refl
+ended_back_lem (Ended.Refused refusal) = ap Ended.Refused (refusal_back_lem refusal)
 
 pub ended_unique : (a b : Ended) → said_of_run a ≡ said_of_run b → because_of a ≡ because_of b → a ≡ b
 ended_unique a b e f = sym (ended_back_lem a) ∙ ap₂ ended_back e f ∙ ended_back_lem b
 
 checked_back : Said → Checked
 checked_back accepted = Checked.Pass
-checked_back (refused number row) = Checked.Refused number row
+checked_back (refused number row) = Checked.Refused (refusal_back number row)
 checked_back (verdict number place) = Checked.Pass
 checked_back pass = Checked.Pass
 checked_back (fail row) = Checked.Fail row
@@ -212,7 +251,7 @@ checked_back_lem : (a : Checked) → checked_back (said_of_check a) ≡ a
 unfolding checked_back
 checked_back_lem Checked.Pass = refl
 checked_back_lem (Checked.Fail row) = refl
-checked_back_lem (Checked.Refused number row) = refl
+checked_back_lem (Checked.Refused refusal) = ap Checked.Refused (refusal_back_lem refusal)
 
 pub checked_unique : (a b : Checked) → said_of_check a ≡ said_of_check b → a ≡ b
 checked_unique a b e = sym (checked_back_lem a) ∙ ap checked_back e ∙ checked_back_lem b
@@ -228,11 +267,20 @@ unfolding judgement
 said_judged words {answer} e = judged_unique answer (judge words) e
 
 -- what the judge's answer was found to be is the judgement
-pub judged_as : (words : List ℕ) {answer given : Judged} → said_of_judge answer ≡ judgement words → answer ≡ given → judge words ≡ given
-judged_as words said e = sym (said_judged words said) ∙ e
+pub judged_as :
+    (words : List ℕ) {answer given : Result (Unit {0}) Refusal} → said_of_judge (judged_of answer) ≡ judgement words → answer ≡ given
+    → judge words ≡ judged_of given
+judged_as words said e = sym (said_judged words said) ∙ ap judged_of e
+
+pub judged_ok :
+    (words : List ℕ) {answer : Result (Unit {0}) Refusal} → said_of_judge (judged_of answer) ≡ judgement words → answer ≡ Ok tt
+    → judge words ≡ Judged.Accepted
+judged_ok words said e = judged_as words said e
 
 -- from an answer "accepted" follows all that the crates above use of a table
-pub accepted_answer : (words : List ℕ) {answer : Judged} → said_of_judge answer ≡ judgement words → answer ≡ Judged.Accepted → Sound (rows_of words)
+pub accepted_answer :
+    (words : List ℕ) {answer : Result (Unit {0}) Refusal} → said_of_judge (judged_of answer) ≡ judgement words → answer ≡ Ok tt
+    → Sound (rows_of words)
 accepted_answer words said e = accepted_sound words (judged_as words said e)
 
 -- ---- what an answer that tells this is

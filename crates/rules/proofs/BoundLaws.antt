@@ -6,7 +6,7 @@ use mathlib.Core.Bool.{Bool, true, false, ◌||◌}
 use mathlib.Core.List.{List, [], ◌∷◌}
 use mathlib.Core.Path.{◌≡◌, refl, sym, subst}
 use lib.ListN.{length, get_or}
-use Rattle.rules.specs.declared.Judged.{Judged}
+use Rattle.rules.specs.Judged.{Judged}
 use Rattle.rules.specs.Limits.{width, most_rows, most_nesting}
 use Rattle.rules.specs.Rows.{rows_of}
 use Rattle.rules.specs.Trees.{Stmt, skip, assign, sequence, if, while, output, nesting, stmt_at, recipe}

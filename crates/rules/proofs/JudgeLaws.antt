@@ -10,7 +10,7 @@ use lib.ListN.{length, get_or}
 use borrow.Author.Tests.{eqb-true, eqb-false, ltb-false, leb-false, not-false, eq-eqb, ne_eqb}
 use Rattle.rules.specs.declared.Role.{Role}
 use Rattle.rules.specs.declared.Row.{Row}
-use Rattle.rules.specs.declared.Judged.{Judged}
+use Rattle.rules.specs.Judged.{Judged}
 use Rattle.rules.specs.Limits.{row_words, most_rows, most_height, most_nesting, most_loop_nesting}
 use Rattle.rules.specs.Rows.{roles_of, rows_of, row_of, absent, row_at, is_expression}
 use Rattle.rules.specs.Judging.{wrong_count, wrong_word, wrong_words, wrong_child, wrong_children, children, places, wrong_parents, too_deep, lowest, or_else, judge_rows, judge}

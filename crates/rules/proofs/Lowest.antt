@@ -7,7 +7,7 @@ use mathlib.Core.Path.{◌≡◌, refl, sym, ◌∙◌, subst, subst₂}
 use lib.Dec.{eqb, ltb}
 use lib.ListN.{length}
 use borrow.Author.Tests.{eqb-true, eqb-false, ltb-true, ltb-false, lt-ltb}
-use Rattle.rules.specs.declared.Judged.{Judged}
+use Rattle.rules.specs.Judged.{Judged}
 use Rattle.rules.specs.Limits.{most_trace_words}
 use Rattle.rules.specs.Rows.{rows_of, row_at}
 use Rattle.rules.specs.Judging.{wrong_count, wrong_words, wrong_children, children, wrong_parents, too_deep, lowest, or_else, judge_rows, judge, judge_trace}

@@ -6,7 +6,7 @@ use mathlib.Core.Path.{◌≡◌, sym, subst}
 use lib.ListN.{length}
 use Rattle.rules.specs.declared.Row.{Row}
 use Rattle.rules.specs.Limits.{width}
-use Rattle.rules.specs.declared.Judged.{Judged}
+use Rattle.rules.specs.Judged.{Judged}
 use Rattle.rules.specs.Rows.{rows_of}
 use Rattle.rules.specs.Judging.{judge}
 use Rattle.rules.specs.Trees.{Stmt, stmt_at, recipe}

@@ -1,24 +1,23 @@
 -- The laws of each refusal: a row's test put together from the tests of its words, and a role's test by the arms of a match.
-use Prim.Native.Nat.{ℕ, zero, suc, ◌+◌, ◌/◌, ◌%◌, ◌≤◌, ◌<◌, min, max}
+use Prim.Native.Nat.{ℕ, zero, suc, ◌+◌, ◌/◌, ◌%◌, ◌≤◌, ◌<◌, min}
 use native.Mathlib.Numerals.{add-one}
 use native.Mathlib.Omega.{arith}
 use mathlib.Core.Bool.{Bool, true, false, cond, not, ◌||◌}
 use mathlib.Core.List.{List, [], ◌∷◌, ◌++◌, append_assoc, append-nil}
+use mathlib.Core.Logic.{◌⊎◌, inl, inr}
 use mathlib.Core.Path.{◌≡◌, refl, sym, ap, ◌∙◌}
 use lib.Dec.{eqb, leb, ltb}
 use lib.ListN.{length, take}
 use lib.Seq.{take_all}
-use borrow.Author.Tests.{le-leb, lt-leb, eq-eqb, ne_eqb, eqb-true, eqb-false}
+use borrow.Author.Tests.{lt-leb, eq-eqb, ne_eqb, eqb-true, eqb-false}
 use Rattle.rules.specs.declared.Depth.{Depth}
-use Rattle.rules.specs.declared.Kind.{Kind}
 use Rattle.rules.specs.declared.Role.{Role}
 use Rattle.rules.specs.declared.Roles.{Roles}
 use Rattle.rules.specs.declared.Row.{Row}
-use Rattle.rules.specs.Limits.{width, row_words, most_rows, highest_channel, highest_operator, most_height, most_nesting, most_loop_nesting}
-use Rattle.rules.specs.Rows.{roles_of, is_statement, is_expression, is_unknown, row_at}
+use Rattle.rules.specs.Limits.{row_words, most_rows}
+use Rattle.rules.specs.Rows.{roles_of, is_expression, is_unknown, row_at}
 use Rattle.rules.specs.Judging.{wrong_count, wrong_word, wrong_words, wrong_child, wrong_children, child_of, children, places, wrong_parents, too_deep}
-use Rattle.rules.specs.OnePass.{children_of, depth_at, depth_by, over_limits, Within}
-use Rattle.rules.proofs.RowLaws.{Arm, kind_at, role_at}
+use Rattle.rules.specs.OnePass.{children_of, depth_at, over_limits, Within}
 use Rattle.rules.proofs.JudgeLaws.{keeps_to_limits}
 
 -- ---- refusal 1
@@ -31,17 +30,6 @@ count_law words part empty long hp he hl = cc
 
 -- ---- refusal 2
 
-pub word_arms :
-    (w : ℕ)
-    → Arm role_at (λ (role : Role). wrong_word role w) (not (eqb w 0)) (0 ∷ [])
-    × Arm role_at (λ (role : Role). wrong_word role w) (leb width w) (1 ∷ [])
-    × Arm role_at (λ (role : Role). wrong_word role w) (ltb highest_channel w) (5 ∷ [])
-    × Arm role_at (λ (role : Role). wrong_word role w) (ltb highest_operator w) (6 ∷ [])
-    × Arm role_at (λ (role : Role). wrong_word role w) false (2 ∷ 3 ∷ 4 ∷ [])
-unfolding wrong_word
-word_arms w =
-    (record { each = refl }, record { each = refl }, record { each = refl }, record { each = refl }, record { each = refl })
-
 pub words_law :
     (row : Row) (roles : Roles) (u p q r : Bool) → roles ≡ roles_of row.kind → u ≡ is_unknown row.kind
     → p ≡ wrong_word roles.p row.p → q ≡ wrong_word roles.q row.q → r ≡ wrong_word roles.r row.r
@@ -51,14 +39,6 @@ words_law row roles u p q r e hu hp hq hr = cc
 
 -- ---- refusal 3
 
-pub child_arms :
-    (rows : List Row) (parent w : ℕ)
-    → Arm role_at (λ (role : Role). wrong_child rows parent role w) (leb parent w || not (is_statement (row_at rows w).kind)) (2 ∷ [])
-    × Arm role_at (λ (role : Role). wrong_child rows parent role w) (leb parent w || not (is_expression (row_at rows w).kind)) (3 ∷ [])
-    × Arm role_at (λ (role : Role). wrong_child rows parent role w) false (0 ∷ 1 ∷ 4 ∷ 5 ∷ 6 ∷ [])
-unfolding wrong_child
-child_arms rows parent w = (record { each = refl }, record { each = refl }, record { each = refl })
-
 pub children_law :
     (rows : List Row) (i : ℕ) (row : Row) (roles : Roles) (p q r : Bool) → roles ≡ roles_of row.kind
     → p ≡ wrong_child rows i roles.p row.p → q ≡ wrong_child rows i roles.q row.q → r ≡ wrong_child rows i roles.r row.r
@@ -66,21 +46,26 @@ pub children_law :
 unfolding wrong_children
 children_law rows i row roles p q r e hp hq hr = cc
 
--- a child is looked at only where its number is below its parent's
-pub late : (parent w : ℕ) (wrong : Bool) → parent ≤ w → (leb parent w || wrong) ≡ true
-late parent w wrong h = ap (λ (b : Bool). b || wrong) (le-leb parent w h)
-
 pub early : (parent w : ℕ) (wrong : Bool) → w < parent → (leb parent w || wrong) ≡ wrong
 early parent w wrong h = ap (λ (b : Bool). b || wrong) (lt-leb parent w h)
 
 -- ---- refusal 4
 
-pub child_of_arms :
-    (w : ℕ)
-    → Arm role_at (λ (role : Role). child_of role w) (w ∷ []) (2 ∷ 3 ∷ [])
-    × Arm role_at (λ (role : Role). child_of role w) [] (0 ∷ 1 ∷ 4 ∷ 5 ∷ 6 ∷ [])
+-- a word is a child where it is a statement or an expression, and else it is none
+pub child_of_one : (role : Role) (w : ℕ) → (role ≡ Role.Statement) ⊎ (role ≡ Role.Expression) → child_of role w ≡ w ∷ []
 unfolding child_of
-child_of_arms w = (record { each = refl }, record { each = refl })
+child_of_one role w (inl e) = ap (λ (r : Role). child_of r w) e
+child_of_one role w (inr e) = ap (λ (r : Role). child_of r w) e
+
+pub child_of_none : (role : Role) (w : ℕ) → (role ≡ Role.Statement → ⊥) → (role ≡ Role.Expression → ⊥) → child_of role w ≡ []
+unfolding child_of
+child_of_none Role.Unnamed w p q = refl
+child_of_none Role.Variable w p q = refl
+child_of_none Role.Statement w p q = absurd (p refl)
+child_of_none Role.Expression w p q = absurd (q refl)
+child_of_none Role.Value w p q = refl
+child_of_none Role.Channel w p q = refl
+child_of_none Role.Operator w p q = refl
 
 pub places_none : (i : ℕ) → places i [] ≡ 0
 unfolding places
@@ -161,39 +146,6 @@ inner_law rows i count h same =
         at false h = ne_eqb b 1 (λ y. eqb-false a 1 h (omega arith))
 
 -- ---- refusal 5
-
-pub depth_arms :
-    (p q r : Depth)
-    → Arm
-    kind_at
-    (λ (kind : Kind). depth_by kind p q r)
-    (record { height = 1; nesting = max p.nesting q.nesting; loops = max p.loops q.loops })
-    (2 ∷ [])
-    × Arm
-    kind_at
-    (λ (kind : Kind). depth_by kind p q r)
-    (record { height = 1; nesting = max q.nesting r.nesting + 1; loops = max q.loops r.loops })
-    (3 ∷ [])
-    × Arm kind_at (λ (kind : Kind). depth_by kind p q r) (record { height = 1; nesting = q.nesting + 1; loops = q.loops + 1 }) (4 ∷ [])
-    × Arm
-    kind_at
-    (λ (kind : Kind). depth_by kind p q r)
-    (record { height = max q.height r.height + 1; nesting = 0; loops = 0 })
-    (8 ∷ [])
-    × Arm
-    kind_at
-    (λ (kind : Kind). depth_by kind p q r)
-    (record { height = 1; nesting = 0; loops = 0 })
-    (0 ∷ 1 ∷ 5 ∷ 6 ∷ 7 ∷ 9 ∷ [])
-unfolding depth_by
-depth_arms p q r =
-    (record { each = refl }, record { each = refl }, record { each = refl }, record { each = refl }, record { each = refl })
-
-pub over_law :
-    (d : Depth) (h n l : Bool) → h ≡ ltb most_height d.height → n ≡ ltb most_nesting d.nesting → l ≡ ltb most_loop_nesting d.loops
-    → (h || n || l) ≡ over_limits d
-unfolding over_limits
-over_law d h n l hh hn hl = cc
 
 pub within_limits : (d : Depth) → over_limits d ≡ false → Within d
 unfolding over_limits

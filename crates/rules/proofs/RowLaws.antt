@@ -4,19 +4,15 @@ use native.Mathlib.Nat.{add-zero}
 use native.Mathlib.Omega.{arith}
 use mathlib.Core.Bool.{true, false, false≢true, true≢false}
 use mathlib.Core.List.{List, [], ◌∷◌, map}
-use mathlib.Core.Path.{◌≡◌, refl, sym, ap, ◌∙◌, subst}
+use mathlib.Core.Path.{◌≡◌, refl, sym, ap, ◌∙◌}
 use mathlib.Core.Logic.{inl, inr}
 use denote.Enum.Declared.{tag_of}
 use types.Run.{OneOf, miss}
 use lib.ListN.{length, get_or, drop}
-use borrow.Author.Tests.{ne_eqb}
 use Rattle.rules.specs.declared.Kind.{Kind}
-use Rattle.rules.specs.declared.Role.{Role}
-use Rattle.rules.specs.declared.Roles.{Roles}
 use Rattle.rules.specs.declared.Row.{Row}
-use Rattle.rules.specs.Rows.{kind_of, roles_of, is_statement, is_expression, is_unknown, row_of, rows_of, absent, row_at}
+use Rattle.rules.specs.Rows.{kind_of, is_statement, is_expression, is_unknown, row_of, rows_of, absent, row_at}
 use Rattle.rules.specs.contracts.Kind as kind-type
-use Rattle.rules.specs.contracts.Role as role-type
 use Rattle.rules.proofs.JudgeLaws.{row_law, row_absent, rows_length}
 
 -- ---- the arms of a match: what holds at each of an arm's places of an enum holds of a value at one of them
@@ -54,107 +50,6 @@ pub kind_arm :
     → OneOf ks (tag_of kind-type.the_type kind) → f kind ≡ a
 kind_arm {A} {f} {a} {ks} arm kind among =
     sym (ap f (kind_place kind)) ∙ at_key (λ n. f (kind_at n)) a ks (tag_of kind-type.the_type kind) arm.each among
-
-abbrev pub role_at : ℕ → Role
-role_at n =
-    get_or (Role.Unnamed ∷ Role.Variable ∷ Role.Statement ∷ Role.Expression ∷ Role.Value ∷ Role.Channel ∷ []) n Role.Operator
-
-role_place : (role : Role) → role_at (tag_of role-type.the_type role) ≡ role
-role_place Role.Unnamed = refl
-role_place Role.Variable = refl
-role_place Role.Statement = refl
-role_place Role.Expression = refl
-role_place Role.Value = refl
-role_place Role.Channel = refl
-role_place Role.Operator = refl
-
-pub role_arm :
-    {A : Type 0} {f : Role → A} {a : A} {ks : List ℕ} → Arm role_at f a ks → (role : Role)
-    → OneOf ks (tag_of role-type.the_type role) → f role ≡ a
-role_arm {A} {f} {a} {ks} arm role among =
-    sym (ap f (role_place role)) ∙ at_key (λ n. f (role_at n)) a ks (tag_of role-type.the_type role) arm.each among
-
--- ---- kinds
-
-pub statement_arms :
-    Arm kind_at is_statement true (0 ∷ 1 ∷ 2 ∷ 3 ∷ 4 ∷ 5 ∷ []) × Arm kind_at is_statement false (6 ∷ 7 ∷ 8 ∷ 9 ∷ [])
-unfolding is_statement
-statement_arms = (record { each = refl }, record { each = refl })
-
-pub expression_arms :
-    Arm kind_at is_expression true (6 ∷ 7 ∷ 8 ∷ [])
-    × Arm kind_at is_expression false (0 ∷ 1 ∷ 2 ∷ 3 ∷ 4 ∷ 5 ∷ 9 ∷ [])
-unfolding is_expression
-expression_arms = (record { each = refl }, record { each = refl })
-
-pub unknown_arms :
-    Arm kind_at is_unknown true (9 ∷ [])
-    × Arm kind_at is_unknown false (0 ∷ 1 ∷ 2 ∷ 3 ∷ 4 ∷ 5 ∷ 6 ∷ 7 ∷ 8 ∷ [])
-unfolding is_unknown
-unknown_arms = (record { each = refl }, record { each = refl })
-
--- what each word is, as a table by the kind's place
-abbrev pub roles_table : List Roles
-roles_table =
-    record { p = Role.Unnamed; q = Role.Unnamed; r = Role.Unnamed }
-    ∷ record { p = Role.Variable; q = Role.Expression; r = Role.Unnamed }
-    ∷ record { p = Role.Statement; q = Role.Statement; r = Role.Unnamed }
-    ∷ record { p = Role.Expression; q = Role.Statement; r = Role.Statement }
-    ∷ record { p = Role.Expression; q = Role.Statement; r = Role.Unnamed }
-    ∷ record { p = Role.Channel; q = Role.Expression; r = Role.Unnamed }
-    ∷ record { p = Role.Value; q = Role.Unnamed; r = Role.Unnamed }
-    ∷ record { p = Role.Variable; q = Role.Unnamed; r = Role.Unnamed }
-    ∷ record { p = Role.Operator; q = Role.Expression; r = Role.Expression }
-    ∷ record { p = Role.Unnamed; q = Role.Unnamed; r = Role.Unnamed }
-    ∷ []
-
--- every place of the table is what the rules say of the kind
-pub roles_law : (kind : Kind) (none : Roles) → get_or roles_table (tag_of kind-type.the_type kind) none ≡ roles_of kind
-unfolding roles_of
-roles_law Kind.Skip none = refl
-roles_law Kind.Assign none = refl
-roles_law Kind.Sequence none = refl
-roles_law Kind.If none = refl
-roles_law Kind.While none = refl
-roles_law Kind.Output none = refl
-roles_law Kind.Constant none = refl
-roles_law Kind.Variable none = refl
-roles_law Kind.Binary none = refl
-roles_law Kind.Unknown none = refl
-
--- the table of kinds by its numbers
-pub kinds_law :
-    (kind_of 0 ≡ Kind.Skip)
-    × (kind_of 1 ≡ Kind.Assign)
-    × (kind_of 2 ≡ Kind.Sequence)
-    × (kind_of 3 ≡ Kind.If)
-    × (kind_of 4 ≡ Kind.While)
-    × (kind_of 5 ≡ Kind.Output)
-    × (kind_of 8 ≡ Kind.Constant)
-    × (kind_of 9 ≡ Kind.Variable)
-    × (kind_of 10 ≡ Kind.Binary)
-unfolding kind_of
-kinds_law = (refl, refl, refl, refl, refl, refl, refl, refl, refl)
-
--- any other number is of no known kind
-abbrev pub Other : List ℕ → ℕ → Type 0
-Other [] k = Unit {0}
-Other (n ∷ ns) k = Other ns k × (k ≡ n → ⊥)
-
-pub kind_unknown : (k : ℕ) → Other (10 ∷ 9 ∷ 8 ∷ 5 ∷ 4 ∷ 3 ∷ 2 ∷ 1 ∷ 0 ∷ []) k → kind_of k ≡ Kind.Unknown
-unfolding kind_of
-kind_unknown k other =
-    simp (
-      ne_eqb k 10 other.1,
-      ne_eqb k 9 other.0.1,
-      ne_eqb k 8 other.0.0.1,
-      ne_eqb k 5 other.0.0.0.1,
-      ne_eqb k 4 other.0.0.0.0.1,
-      ne_eqb k 3 other.0.0.0.0.0.1,
-      ne_eqb k 2 other.0.0.0.0.0.0.1,
-      ne_eqb k 1 other.0.0.0.0.0.0.0.1,
-      ne_eqb k 0 other.0.0.0.0.0.0.0.0.1,
-    )
 
 -- ---- a row read word by word
 
@@ -194,13 +89,6 @@ output_left Kind.Constant among sort other = absurd (false≢true sort)
 output_left Kind.Variable among sort other = absurd (false≢true sort)
 output_left Kind.Binary among sort other = absurd (false≢true sort)
 output_left Kind.Unknown among sort other = absurd (false≢true sort)
-
--- a sequence is at no other place of the kinds
-pub not_sequence :
-    (kind : Kind) → OneOf (0 ∷ 1 ∷ 3 ∷ 4 ∷ 5 ∷ 6 ∷ 7 ∷ 8 ∷ 9 ∷ []) (tag_of kind-type.the_type kind) → kind ≡ Kind.Sequence → ⊥
-not_sequence kind among e =
-    miss (0 ∷ 1 ∷ 3 ∷ 4 ∷ 5 ∷ 6 ∷ 7 ∷ 8 ∷ 9 ∷ []) 2 tt
-    (subst (λ (k : Kind). OneOf (0 ∷ 1 ∷ 3 ∷ 4 ∷ 5 ∷ 6 ∷ 7 ∷ 8 ∷ 9 ∷ []) (tag_of kind-type.the_type k)) e among)
 
 -- a known kind that is no expression is a statement
 pub statement_left : (kind : Kind) → is_unknown kind ≡ false → is_expression kind ≡ false → is_statement kind ≡ true

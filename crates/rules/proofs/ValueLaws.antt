@@ -14,32 +14,12 @@ use Rattle.rules.specs.declared.Operator.{Operator}
 use Rattle.rules.specs.declared.Row.{Row}
 use Rattle.rules.specs.Limits.{word_bits, quotient_by_zero}
 use Rattle.rules.specs.Marks.{none, has, only, union, provisional}
-use Rattle.rules.specs.Trees.{Expr, constant, variable, binary, Stmt, skip, operator_of, expr_node, stmt_node}
+use Rattle.rules.specs.Trees.{Expr, constant, variable, binary, Stmt, skip, expr_node, stmt_node}
 use Rattle.rules.specs.Values.{operate, value, level, may_assign}
 use Rattle.rules.proofs.MarkLaws.{and_bit, only_power, has_only_same, has_provisional, provisional_none, provisional_union}
-use Rattle.rules.proofs.RowLaws.{Arm, kind_at, Other}
+use Rattle.rules.proofs.RowLaws.{Arm, kind_at}
 
 -- ---- the operators by their numbers
-
-pub operators_law :
-    (operator_of 0 ≡ Operator.Sum)
-    × (operator_of 1 ≡ Operator.Difference)
-    × (operator_of 2 ≡ Operator.Product)
-    × (operator_of 3 ≡ Operator.Quotient)
-    × (operator_of 4 ≡ Operator.Equal)
-unfolding operator_of
-operators_law = (refl, refl, refl, refl, refl)
-
-pub operator_less : (n : ℕ) → Other (4 ∷ 3 ∷ 2 ∷ 1 ∷ 0 ∷ []) n → operator_of n ≡ Operator.Less
-unfolding operator_of
-operator_less n other =
-    simp (
-      ne_eqb n 4 other.1,
-      ne_eqb n 3 other.0.1,
-      ne_eqb n 2 other.0.0.1,
-      ne_eqb n 1 other.0.0.0.1,
-      ne_eqb n 0 other.0.0.0.0.1,
-    )
 
 -- ---- the operators' values
 

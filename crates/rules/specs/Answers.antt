@@ -1,6 +1,7 @@
 -- Sections 4, 6 and 8 of the rules: the whole answer of a call, and the trace afterwards.
-use Rattle.std.specs.Prelude.{ℕ, ◌/◌, List, [], ◌∷◌, ◌++◌, false, ◌≡◌, length, drop}
-use Rattle.rules.specs.declared.Judged.{Judged}
+use Rattle.std.specs.Prelude.{ℕ, ◌/◌, List, [], ◌∷◌, ◌++◌, false, ◌≡◌, length, drop, Result, Ok, Err}
+use Rattle.rules.specs.declared.Fault.{Fault}
+use Rattle.rules.specs.declared.Refusal.{Refusal}
 use Rattle.rules.specs.declared.Ended.{Ended}
 use Rattle.rules.specs.declared.Answer.{Answer}
 use Rattle.rules.specs.declared.Checked.{Checked}
@@ -9,6 +10,7 @@ use Rattle.rules.specs.Limits.{record_words}
 use Rattle.rules.specs.Marks.{none}
 use Rattle.rules.specs.Rows.{rows_of}
 use Rattle.rules.specs.Trees.{recipe}
+use Rattle.rules.specs.Judged.{Judged}
 use Rattle.rules.specs.Judging.{or_else, judge, judge_trace}
 use Rattle.rules.specs.Running.{Record, State, Terms, Outcome, start, run}
 use Rattle.rules.specs.LevelCheck.{Walked, walk, checked_of}
@@ -22,7 +24,20 @@ pub data Said : Type 0 where
   pass : Said
   fail : ℕ → Said
 
+-- The numbers of the refusals 1 to 6.
 -- 10.11: Where a function answers with an enum, a definition gives these rules' numbers and values for each of its cases.
+abbrev pub number_of : Fault → ℕ
+number_of Fault.WrongCount = 1
+number_of Fault.WrongWord = 2
+number_of Fault.WrongChild = 3
+number_of Fault.WrongParents = 4
+number_of Fault.TooDeep = 5
+number_of Fault.LongTrace = 6
+
+abbrev pub judged_of : Result (Unit {0}) Refusal → Judged
+judged_of (Ok done) = Judged.Accepted
+judged_of (Err refusal) = Judged.Refused (number_of refusal.fault) refusal.row
+
 abbrev pub said_of_judge : Judged → Said
 said_of_judge Judged.Accepted = accepted
 said_of_judge (Judged.Refused number row) = refused number row
@@ -34,7 +49,7 @@ said_of_run Ended.Done = verdict 0 0
 said_of_run (Ended.Stopped row because) = verdict 1 row
 said_of_run Ended.Spent = verdict 2 0
 said_of_run (Ended.NoRoom row) = verdict 3 row
-said_of_run (Ended.Refused number row) = refused number row
+said_of_run (Ended.Refused refusal) = refused (number_of refusal.fault) refusal.row
 
 -- 6.10: .. they are answered for verdict 1, and the empty set for the others and for a refusal.
 abbrev pub because_of : Ended → ℕ
@@ -42,12 +57,12 @@ because_of Ended.Done = none
 because_of (Ended.Stopped row because) = because
 because_of Ended.Spent = none
 because_of (Ended.NoRoom row) = none
-because_of (Ended.Refused number row) = none
+because_of (Ended.Refused refusal) = none
 
 abbrev pub said_of_check : Checked → Said
 said_of_check Checked.Pass = pass
 said_of_check (Checked.Fail row) = fail row
-said_of_check (Checked.Refused number row) = refused number row
+said_of_check (Checked.Refused refusal) = refused (number_of refusal.fault) refusal.row
 
 -- 4.9: The judge and the level check are lent no trace and so meet 1 to 5 alone; ..
 unfoldable pub judgement : List ℕ → Said
@@ -55,8 +70,8 @@ judgement words = said_of_judge (judge words)
 
 -- What a call of the judge answers: the contract of the function, and what the promises speak of.
 -- 10.3: What the judge, a run and the level check answer, .. is what these rules say, and nothing else.
-abbrev pub JudgeAnswers : List ℕ → Judged → Type 0
-JudgeAnswers words judged = said_of_judge judged ≡ judgement words
+abbrev pub JudgeAnswers : List ℕ → Result (Unit {0}) Refusal → Type 0
+JudgeAnswers words judged = said_of_judge (judged_of judged) ≡ judgement words
 
 -- 6.5: Steps, records, memory and marks are answered as the run has reached them; sets that are still in the pile are not
 -- added to the marks.

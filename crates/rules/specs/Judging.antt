@@ -2,7 +2,7 @@
 use Rattle.std.specs.Prelude.{ℕ, zero, suc, ◌+◌, ◌/◌, ◌%◌, Bool, false, cond, not, ◌||◌, List, [], ◌∷◌, ◌++◌, eqb, leb, ltb, length}
 use Rattle.rules.specs.declared.Role.{Role}
 use Rattle.rules.specs.declared.Row.{Row}
-use Rattle.rules.specs.declared.Judged.{Judged}
+use Rattle.rules.specs.Judged.{Judged}
 use Rattle.rules.specs.Limits.{width, row_words, most_rows, highest_channel, highest_operator, most_height, most_nesting, most_loop_nesting, most_trace_words}
 use Rattle.rules.specs.Rows.{roles_of, is_statement, is_expression, is_unknown, rows_of, row_at}
 use Rattle.rules.specs.Trees.{expr_at, stmt_at, height, nesting, loop_nesting}

@@ -2,6 +2,7 @@
 pub mod Limits
 pub mod Rows
 pub mod Trees
+pub mod Judged
 pub mod Judging
 pub mod Lowest
 pub mod Sound

@@ -2,7 +2,7 @@
 -- 4.7: Of the refusals 1 to 6 that apply anywhere, the one with the lowest number is given, at the lowest row at which it
 -- applies; where none applies the table is accepted.
 use Rattle.std.specs.Prelude.{ℕ, ◌≤◌, ◌<◌, true, List, ◌↔◌, ◌≡◌, length}
-use Rattle.rules.specs.declared.Judged.{Judged}
+use Rattle.rules.specs.Judged.{Judged}
 use Rattle.rules.specs.Limits.{most_trace_words}
 use Rattle.rules.specs.Rows.{rows_of, row_at}
 use Rattle.rules.specs.Judging.{wrong_count, wrong_words, wrong_children, children, wrong_parents, too_deep, or_else, judge, judge_trace}

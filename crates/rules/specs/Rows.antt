@@ -18,6 +18,20 @@ kind_of k =
     (cond (eqb k 9) Kind.Variable
     (cond (eqb k 10) Kind.Binary Kind.Unknown))))))))
 
+-- an unknown kind stands in no row, and 11 is the number of none
+-- 2.2: The kinds have these numbers, and every other number is an unknown kind.
+abbrev pub kind_number : Kind → ℕ
+kind_number Kind.Skip = 0
+kind_number Kind.Assign = 1
+kind_number Kind.Sequence = 2
+kind_number Kind.If = 3
+kind_number Kind.While = 4
+kind_number Kind.Output = 5
+kind_number Kind.Constant = 8
+kind_number Kind.Variable = 9
+kind_number Kind.Binary = 10
+kind_number Kind.Unknown = 11
+
 -- 2.3: What p, q and r are is fixed by the kind; where nothing stands the word has no name.
 unfoldable pub roles_of : Kind → Roles
 roles_of Kind.Skip = record { p = Role.Unnamed; q = Role.Unnamed; r = Role.Unnamed }

@@ -29,6 +29,15 @@ operator_of n =
     (cond (eqb n 3) Operator.Quotient
     (cond (eqb n 4) Operator.Equal Operator.Less))))
 
+-- 2.7: The operators are 0 sum, 1 difference, 2 product, 3 quotient, 4 equal and 5 less.
+unfoldable pub operator_number : Operator → ℕ
+operator_number Operator.Sum = 0
+operator_number Operator.Difference = 1
+operator_number Operator.Product = 2
+operator_number Operator.Quotient = 3
+operator_number Operator.Equal = 4
+operator_number Operator.Less = 5
+
 -- What a row stands for, where child gives what its children stand for. A row of the wrong sort is read as the constant 0
 -- or as skip; refusal 2 or 3 is given for it.
 -- 2.6: A row and its children, their children and so on are a tree, ..

@@ -1,6 +1,8 @@
 // The types that the rules and the code share: kinds, roles of a word, rows, memory, and the answers.
 #![tactic(auto)]
 
+mod numbers;
+
 // how many values there are
 // 1.1: A value is a whole number from 0 to 4,294,967,295, and so is a word of a table: 32 bits.
 pub const WORD_VALUES: u64 = 4294967296;
@@ -24,7 +26,7 @@ pub const MOST_NESTING: u8 = 8;
 pub type Marks = u32;
 
 // What a row is, by its first word. Unknown is any number that the table of kinds does not have.
-#[derive(Clone, Copy)]
+#[derive(Clone, Copy, PartialEq, Eq)]
 pub enum Kind {
     Skip,
     Assign,
@@ -40,7 +42,7 @@ pub enum Kind {
 
 // What a word p, q or r is.
 // 2.3: What p, q and r are is fixed by the kind; where nothing stands the word has no name.
-#[derive(Clone, Copy)]
+#[derive(Clone, Copy, PartialEq, Eq)]
 pub enum Role {
     Unnamed,
     Variable,
@@ -59,7 +61,7 @@ pub struct Roles {
     pub r: Role,
 }
 
-#[derive(Clone, Copy)]
+#[derive(Clone, Copy, PartialEq, Eq)]
 pub enum Operator {
     Sum,
     Difference,
@@ -92,11 +94,22 @@ pub struct Memory {
     pub words: [u32; VARIABLES],
 }
 
-// What the judge answers of a table.
-#[derive(Clone, Copy)]
-pub enum Judged {
-    Accepted,
-    Refused { number: u32, row: u32 },
+// What refusals 1 to 6 find at fault, in their order.
+#[derive(Clone, Copy, PartialEq, Eq)]
+pub enum Fault {
+    WrongCount,
+    WrongWord,
+    WrongChild,
+    WrongParents,
+    TooDeep,
+    LongTrace,
+}
+
+// A refusal of a table or of a trace: what is at fault, and the row.
+#[derive(Clone, Copy, PartialEq, Eq)]
+pub struct Refusal {
+    pub fault: Fault,
+    pub row: u32,
 }
 
 // How a run ended: done, stopped by the monitor at an output's row because of some variables, with its budget used up, or at
@@ -107,7 +120,7 @@ pub enum Ended {
     Stopped { row: u32, because: Marks },
     Spent,
     NoRoom(u32),
-    Refused { number: u32, row: u32 },
+    Refused(Refusal),
 }
 
 // What a run answers. Its records are the first words of the trace.
@@ -125,7 +138,7 @@ pub struct Answer {
 pub enum Checked {
     Pass,
     Fail(u32),
-    Refused { number: u32, row: u32 },
+    Refused(Refusal),
 }
 
 // What the level check answers: its word, and the final marks.

@@ -5,7 +5,9 @@ use mathlib.Core.Bool.{true, false}
 use mathlib.Core.List.{List, [], ◌∷◌, ◌++◌}
 use mathlib.Core.Path.{◌≡◌, refl, sym, ap, ap₂, ◌∙◌, subst, subst₂}
 use lib.ListN.{length}
-use Rattle.rules.specs.declared.Judged.{Judged}
+use Rattle.std.specs.Prelude.{Result, Ok, Err}
+use Rattle.rules.specs.declared.Fault.{Fault}
+use Rattle.rules.specs.declared.Refusal.{Refusal}
 use Rattle.rules.specs.declared.Answer.{Answer}
 use Rattle.rules.specs.declared.Ended.{Ended}
 use Rattle.rules.specs.declared.Checked.{Checked}
@@ -16,9 +18,9 @@ use Rattle.rules.specs.Marks.{◌⊆◌, provisional}
 use Rattle.rules.specs.Running.{Record, State, Terms, context, run}
 use Rattle.rules.specs.LevelRules.{failing}
 use Rattle.rules.specs.LevelCheck.{checked_of}
-use Rattle.rules.specs.Answers.{refused, said_of_run, because_of, said_of_check, Whole, Inputs, terms_of, answer, trace_words_of, JudgeAnswers, RunAnswers, Advised, advised_of, CheckAnswers}
+use Rattle.rules.specs.Answers.{number_of, refused, said_of_run, because_of, said_of_check, Whole, Inputs, terms_of, answer, trace_words_of, JudgeAnswers, RunAnswers, Advised, advised_of, CheckAnswers}
 use Rattle.rules.proofs.RunInvariants.{run_unrefused}
-use Rattle.rules.proofs.AnswerLaws.{start_of, start_law, Call, ran, away, call, answer_refused, answer_oversized, answer_ran, shown_law, told_said, told_because, told_steps, told_records, told_memory, told_marks, trace_after_law, trace_words_cons, advice_refused, judged_unique, ended_unique, checked_unique, said_judged, judged_as}
+use Rattle.rules.proofs.AnswerLaws.{start_of, start_law, Call, ran, away, call, answer_refused, answer_oversized, answer_ran, shown_law, told_said, told_because, told_steps, told_records, told_memory, told_marks, trace_after_law, trace_words_cons, advice_refused, judge_unique, ended_unique, checked_unique, said_judged, judged_as}
 use Rattle.safety.specs.Demands.{Names, SameRun, unwatched, EitherBegins, SameToTheStations}
 use Rattle.safety.specs.Calls.{records_in, whole_of, CallIsTheAnswer, CallJudges, Returned, CallEnds, CallIsRefusedAsJudged, CheckIsLeast, CheckIsRefusedAsJudged, CallIsUnwatched, CallsShowTheSame, CallIsNeverStopped, StopExplained, CallIsExplained}
 use Rattle.safety.proofs.Demand1.{ends_within_budget, refusals_touch_nothing}
@@ -70,9 +72,9 @@ call_judges words judged said = said_judged words said
 
 -- ---- Demand 1
 
-returned : (i : Inputs) (a : Answer) (after : List ℕ) → RunAnswers i a after → (number row : ℕ) → a.ended ≡ Ended.Refused number row → Returned i a after
-returned i a after called number row e =
-    let kept = refusals_touch_nothing i number row (answer_said i a after called (Ended.Refused number row) e) in
+returned : (i : Inputs) (a : Answer) (after : List ℕ) → RunAnswers i a after → (refusal : Refusal) → a.ended ≡ Ended.Refused refusal → Returned i a after
+returned i a after called refusal e =
+    let kept = refusals_touch_nothing i (number_of refusal.fault) refusal.row (answer_said i a after called (Ended.Refused refusal) e) in
     record {
       no_step = told_steps a (answer i) called.told ∙ kept.no_step;
       no_record = told_records a (answer i) called.told ∙ ap length kept.no_record;
@@ -89,19 +91,20 @@ call_ends i a after called = (
 
 pub call_is_refused_as_judged : CallIsRefusedAsJudged
 call_is_refused_as_judged i judged a after said called = record {
-  bad_table = λ number row e.
-      ended_as i a after called (Ended.Refused number row) _ (answer_refused i number row (judged_as i.words said e)) refl refl;
-  oversized = λ e over. ended_as i a after called (Ended.Refused 6 0) _ (answer_oversized i (judged_as i.words said e) over) refl refl;
-  admitted = λ e fits number row f.
-      run_unrefused (terms_of (length i.trace)) i.budget (start_of i.words i.memory i.marks) number row
-      (sym (ap (λ (x : Whole). x.said) (answer_ran i (judged_as i.words said e) fits ∙ shown_law i)) ∙ answer_said i a after called (Ended.Refused number row) f);
+  bad_table = λ refusal e.
+      ended_as i a after called (Ended.Refused refusal) _
+      (answer_refused i (number_of refusal.fault) refusal.row (judged_as i.words said e)) refl refl;
+  oversized = λ e over. ended_as i a after called (Ended.Refused (record { fault = Fault.LongTrace; row = 0 })) _ (answer_oversized i (judged_as i.words said e) over) refl refl;
+  admitted = λ e fits refusal f.
+      run_unrefused (terms_of (length i.trace)) i.budget (start_of i.words i.memory i.marks) (number_of refusal.fault) refusal.row
+      (sym (ap (λ (x : Whole). x.said) (answer_ran i (judged_as i.words said e) fits ∙ shown_law i)) ∙ answer_said i a after called (Ended.Refused refusal) f);
 }
 
 -- ---- Demand 2
 
 pub check_is_least : CheckIsLeast
 check_is_least words marks check said checks =
-    let least = level_check_is_least words marks (judged_as words said refl) in
+    let least = level_check_is_least words marks (judged_as words {answer = Ok tt} said refl) in
     let rows : List ℕ = failing (recipe (rows_of words)) least.0 false marks in
     let word = checked_unique check.checked (checked_of rows) (ap (λ (x : Advised). x.said) checks ∙ least.3) in (
       least.0,
@@ -112,26 +115,28 @@ check_is_least words marks check said checks =
 
 -- a call of the level check where a call of the judge refuses
 refused_alike :
-    (words : List ℕ) (marks : ℕ) (judged : Judged) (check : Advice) → JudgeAnswers words judged → CheckAnswers words marks check → (number row : ℕ)
-    → judged ≡ Judged.Refused number row → advised_of check ≡ record { said = refused number row; marks = marks }
-refused_alike words marks judged check said checks number row e = checks ∙ advice_refused words marks number row (judged_as words said e)
+    (words : List ℕ) (marks : ℕ) (judged : Result (Unit {0}) Refusal) (check : Advice) → JudgeAnswers words judged
+    → CheckAnswers words marks check → (refusal : Refusal) → judged ≡ Err refusal
+    → advised_of check ≡ record { said = refused (number_of refusal.fault) refusal.row; marks = marks }
+refused_alike words marks judged check said checks refusal e =
+    checks ∙ advice_refused words marks (number_of refusal.fault) refusal.row (judged_as words said e)
 
 pub check_is_refused_as_judged : CheckIsRefusedAsJudged
-check_is_refused_as_judged words marks judged check said checks number row = (
+check_is_refused_as_judged words marks judged check said checks refusal = (
   (by judged said, back),
-  λ e. ap (λ (x : Advised). x.marks) (refused_alike words marks judged check said checks number row (by judged said e)),
+  λ e. ap (λ (x : Advised). x.marks) (refused_alike words marks judged check said checks refusal (by judged said e)),
 )
   where
-    back : judged ≡ Judged.Refused number row → check.checked ≡ Checked.Refused number row
+    back : judged ≡ Err refusal → check.checked ≡ Checked.Refused refusal
     back e =
-        checked_unique check.checked (Checked.Refused number row)
-        (ap (λ (x : Advised). x.said) (refused_alike words marks judged check said checks number row e))
+        checked_unique check.checked (Checked.Refused refusal)
+        (ap (λ (x : Advised). x.said) (refused_alike words marks judged check said checks refusal e))
 
-    by : (j : Judged) → JudgeAnswers words j → check.checked ≡ Checked.Refused number row → j ≡ Judged.Refused number row
-    by Judged.Accepted judges e = absurd ((check_is_least words marks check judges checks).3.unrefused number row e)
-    by (Judged.Refused number' row') judges e =
-        judged_unique (Judged.Refused number' row') (Judged.Refused number row)
-        (sym (ap (λ (x : Advised). x.said) (refused_alike words marks (Judged.Refused number' row') check judges checks number' row' refl)) ∙ ap said_of_check e)
+    by : (j : Result (Unit {0}) Refusal) → JudgeAnswers words j → check.checked ≡ Checked.Refused refusal → j ≡ Err refusal
+    by (Ok done) judges e = absurd ((check_is_least words marks check judges checks).3.unrefused refusal e)
+    by (Err other) judges e =
+        judge_unique (Err other) (Err refusal)
+        (sym (ap (λ (x : Advised). x.said) (refused_alike words marks (Err other) check judges checks other refl)) ∙ ap said_of_check e)
 
 pub call_is_unwatched : CallIsUnwatched
 call_is_unwatched i a after called done =

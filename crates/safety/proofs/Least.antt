@@ -215,12 +215,12 @@ pub lowest_is_named : LowestIsNamed
 lowest_is_named [] = record {
   passes = (λ e. refl, λ e. refl);
   fails = λ row e. let z : ◌≡◌ {A = ℕ} 0 1 = cc in absurd (omega arith);
-  unrefused = λ number row e. let z : ◌≡◌ {A = ℕ} 0 1 = cc in omega arith;
+  unrefused = λ refusal e. let z : ◌≡◌ {A = ℕ} 0 1 = cc in omega arith;
 }
 lowest_is_named (row ∷ rows) = record {
   passes = (λ e. let z : ◌≡◌ {A = ℕ} 0 1 = cc in absurd (omega arith), λ e. let z : ◌≡◌ {A = ℕ} 0 1 = cc in absurd (omega arith));
   fails = λ named e.
       let same : lowest_of row rows ≡ named = cc in
       (subst (λ (x : ℕ). Among x (row ∷ rows)) same (lowest_among row rows), λ other a. subst (λ (x : ℕ). x ≤ other) same (lowest_low row rows other a));
-  unrefused = λ number row' e. let z : ◌≡◌ {A = ℕ} 0 1 = cc in omega arith;
+  unrefused = λ refusal e. let z : ◌≡◌ {A = ℕ} 0 1 = cc in omega arith;
 }

@@ -8,7 +8,7 @@ use mathlib.Core.Logic.{◌≢◌}
 use mathlib.Core.Path.{◌≡◌, refl, sym, ap, ◌∙◌, subst}
 use lib.Dec.{eqb, ltb}
 use lib.ListN.{length}
-use Rattle.rules.specs.declared.Judged.{Judged}
+use Rattle.rules.specs.Judged.{Judged}
 use Rattle.rules.specs.declared.Checked.{Checked}
 use Rattle.rules.specs.Limits.{width}
 use Rattle.rules.specs.Rows.{rows_of}

@@ -1,7 +1,8 @@
 -- The demands for whoever calls the judge, the run or the level check: over the answers and traces that their contracts allow.
 -- Each hypothesis about a call is the contract of the function itself.
-use Rattle.std.specs.Prelude.{ℕ, zero, suc, ◌≤◌, ◌<◌, true, false, List, [], ◌∷◌, ◌↔◌, ◌≡◌, length}
-use Rattle.rules.specs.declared.Judged.{Judged}
+use Rattle.std.specs.Prelude.{ℕ, zero, suc, ◌≤◌, ◌<◌, true, false, List, [], ◌∷◌, ◌↔◌, ◌≡◌, length, Result, Ok, Err}
+use Rattle.rules.specs.declared.Fault.{Fault}
+use Rattle.rules.specs.declared.Refusal.{Refusal}
 use Rattle.rules.specs.declared.Answer.{Answer}
 use Rattle.rules.specs.declared.Ended.{Ended}
 use Rattle.rules.specs.declared.Checked.{Checked}
@@ -13,7 +14,7 @@ use Rattle.rules.specs.Judging.{judge}
 use Rattle.rules.specs.Marks.{◌⊆◌, provisional}
 use Rattle.rules.specs.Running.{Record, context, run}
 use Rattle.rules.specs.LevelRules.{Choice, result, failing}
-use Rattle.rules.specs.Answers.{said_of_run, because_of, Whole, Inputs, terms_of, started, answer, JudgeAnswers, RunAnswers, CheckAnswers}
+use Rattle.rules.specs.Answers.{judged_of, said_of_run, because_of, Whole, Inputs, terms_of, started, answer, JudgeAnswers, RunAnswers, CheckAnswers}
 use Rattle.safety.specs.Demands.{Least, Names, SameRun, unwatched, TwoMemories, EitherBegins, SameToTheStations}
 
 -- ---- what a caller reads off
@@ -41,7 +42,7 @@ abbrev pub CallIsTheAnswer : Type 0
 CallIsTheAnswer = (i : Inputs) (a : Answer) (after : List ℕ) → RunAnswers i a after → whole_of a after ≡ answer i
 
 abbrev pub CallJudges : Type 0
-CallJudges = (words : List ℕ) (judged : Judged) → JudgeAnswers words judged → judged ≡ judge words
+CallJudges = (words : List ℕ) (judged : Result (Unit {0}) Refusal) → JudgeAnswers words judged → judged_of judged ≡ judge words
 
 -- ---- Demand 1
 
@@ -57,21 +58,22 @@ pub record Returned (i : Inputs) (a : Answer) (after : List ℕ) : Type 0 where
 abbrev pub CallEnds : Type 0
 CallEnds =
     (i : Inputs) (a : Answer) (after : List ℕ) → RunAnswers i a after
-    → (a.steps ≤ i.budget) × ((number row : ℕ) → a.ended ≡ Ended.Refused number row → Returned i a after)
+    → (a.steps ≤ i.budget) × ((refusal : Refusal) → a.ended ≡ Ended.Refused refusal → Returned i a after)
 
 -- A call of the run is refused where a call of the judge refuses its table, with the same number and row; else where the
 -- trace is oversized; and nowhere else.
 -- 4.7: Of the refusals 1 to 6 that apply anywhere, the one with the lowest number is given, at the lowest row at which it
 -- applies; where none applies the table is accepted.
-pub record RefusedAsJudged (i : Inputs) (judged : Judged) (a : Answer) : Type 0 where
-  pub bad_table : (number row : ℕ) → judged ≡ Judged.Refused number row → a.ended ≡ Ended.Refused number row
-  pub oversized : judged ≡ Judged.Accepted → most_trace_words < length i.trace → a.ended ≡ Ended.Refused 6 0
+pub record RefusedAsJudged (i : Inputs) (judged : Result (Unit {0}) Refusal) (a : Answer) : Type 0 where
+  pub bad_table : (refusal : Refusal) → judged ≡ Err refusal → a.ended ≡ Ended.Refused refusal
+  pub oversized :
+      judged ≡ Ok tt → most_trace_words < length i.trace → a.ended ≡ Ended.Refused (record { fault = Fault.LongTrace; row = 0 })
   pub admitted :
-      judged ≡ Judged.Accepted → length i.trace ≤ most_trace_words → (number row : ℕ) → a.ended ≡ Ended.Refused number row → ⊥
+      judged ≡ Ok tt → length i.trace ≤ most_trace_words → (refusal : Refusal) → a.ended ≡ Ended.Refused refusal → ⊥
 
 abbrev pub CallIsRefusedAsJudged : Type 0
 CallIsRefusedAsJudged =
-    (i : Inputs) (judged : Judged) (a : Answer) (after : List ℕ) → JudgeAnswers i.words judged → RunAnswers i a after
+    (i : Inputs) (judged : Result (Unit {0}) Refusal) (a : Answer) (after : List ℕ) → JudgeAnswers i.words judged → RunAnswers i a after
     → RefusedAsJudged i judged a
 
 -- ---- Demand 2
@@ -80,7 +82,7 @@ CallIsRefusedAsJudged =
 -- and pass, or fail with the lowest of its failing rows.
 abbrev pub CheckIsLeast : Type 0
 CheckIsLeast =
-    (words : List ℕ) (marks : ℕ) (check : Advice) → JudgeAnswers words Judged.Accepted → CheckAnswers words marks check
+    (words : List ℕ) (marks : ℕ) (check : Advice) → JudgeAnswers words (Ok tt) → CheckAnswers words marks check
     → (choice : Choice (recipe (rows_of words)))
     × Least (recipe (rows_of words)) marks choice
     × (check.marks ≡ result (recipe (rows_of words)) choice false marks)
@@ -91,10 +93,10 @@ CheckIsLeast =
 -- it was given.
 abbrev pub CheckIsRefusedAsJudged : Type 0
 CheckIsRefusedAsJudged =
-    (words : List ℕ) (marks : ℕ) (judged : Judged) (check : Advice) → JudgeAnswers words judged → CheckAnswers words marks check
-    → (number row : ℕ)
-    → ((check.checked ≡ Checked.Refused number row) ↔ (judged ≡ Judged.Refused number row))
-    × (check.checked ≡ Checked.Refused number row → check.marks ≡ marks)
+    (words : List ℕ) (marks : ℕ) (judged : Result (Unit {0}) Refusal) (check : Advice) → JudgeAnswers words judged → CheckAnswers words marks check
+    → (refusal : Refusal)
+    → ((check.checked ≡ Checked.Refused refusal) ↔ (judged ≡ Err refusal))
+    × (check.checked ≡ Checked.Refused refusal → check.marks ≡ marks)
 
 -- A call that ends done has the records, memory and steps of the unwatched language.
 abbrev pub CallIsUnwatched : Type 0

@@ -1,8 +1,9 @@
 -- Section 10 of the rules: the demands, each under its sentence. What is proved of each stands in proofs/, under the same
 -- name.
 use Rattle.std.specs.Prelude.{ℕ, ◌^◌, ◌≤◌, ◌<◌, true, false, List, [], ◌⊎◌, ◌↔◌, ◌≡◌, length, get_or}
-use Rattle.rules.specs.declared.Judged.{Judged}
+use Rattle.rules.specs.Judged.{Judged}
 use Rattle.rules.specs.declared.Ended.{Ended}
+use Rattle.rules.specs.declared.Refusal.{Refusal}
 use Rattle.rules.specs.declared.Checked.{Checked}
 use Rattle.rules.specs.Limits.{width, most_nesting}
 use Rattle.rules.specs.Bounds.{most_pending}
@@ -65,7 +66,7 @@ LevelCheckIsLeast =
 pub record Names (checked : Checked) (rows : List ℕ) : Type 0 where
   pub passes : (checked ≡ Checked.Pass) ↔ (rows ≡ [])
   pub fails : (row : ℕ) → checked ≡ Checked.Fail row → Among row rows × ((other : ℕ) → Among other rows → row ≤ other)
-  pub unrefused : (number row : ℕ) → checked ≡ Checked.Refused number row → ⊥
+  pub unrefused : (refusal : Refusal) → checked ≡ Checked.Refused refusal → ⊥
 
 abbrev pub LowestIsNamed : Type 0
 LowestIsNamed = (rows : List ℕ) → Names (checked_of rows) rows

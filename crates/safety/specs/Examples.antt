@@ -1,6 +1,7 @@
 -- An example for each hypothesis of the demands, so that none of them speaks of nothing.
-use Rattle.std.specs.Prelude.{ℕ, Bool, true, false, List, [], ◌∷◌, ◌≡◌, length, drop}
-use Rattle.rules.specs.declared.Judged.{Judged}
+use Rattle.std.specs.Prelude.{ℕ, Bool, true, false, List, [], ◌∷◌, ◌≡◌, length, drop, Ok, Err}
+use Rattle.rules.specs.declared.Fault.{Fault}
+use Rattle.rules.specs.declared.Refusal.{Refusal}
 use Rattle.rules.specs.declared.Ended.{Ended}
 use Rattle.rules.specs.declared.Checked.{Checked}
 use Rattle.rules.specs.Running.{context, run}
@@ -64,6 +65,9 @@ StopsShow =
 abbrev pub bad : List Quad
 bad = (8, 1, 0, 0) ∷ []
 
+abbrev parentless : Refusal
+parentless = record { fault = Fault.WrongParents; row = 0 }
+
 -- A call that is refused.
 abbrev pub Refused : Type 0
 Refused = (answer (given bad [])).said ≡ refused 4 0
@@ -71,7 +75,7 @@ Refused = (answer (given bad [])).said ≡ refused 4 0
 -- Calls of the judge, the level check and the run: of a table that is accepted, passed and done, with its two records in the trace;
 abbrev pub CallsShow : Type 0
 CallsShow =
-    JudgeAnswers (words_of shown) Judged.Accepted
+    JudgeAnswers (words_of shown) (Ok tt)
     × CheckAnswers (words_of shown) usual_marks (record { checked = Checked.Pass; marks = 1 })
     × RunAnswers (given shown (1 ∷ 7 ∷ []))
     (record { ended = Ended.Done; steps = 7; records = 2; memory = record { words = memory_of (0 ∷ 7 ∷ []) }; marks = 1 })
@@ -88,8 +92,8 @@ CallsStop =
 -- and of one that is refused.
 abbrev pub CallsRefuse : Type 0
 CallsRefuse =
-    JudgeAnswers (words_of bad) (Judged.Refused 4 0)
-    × CheckAnswers (words_of bad) usual_marks (record { checked = Checked.Refused 4 0; marks = 1 })
+    JudgeAnswers (words_of bad) (Err parentless)
+    × CheckAnswers (words_of bad) usual_marks (record { checked = Checked.Refused parentless; marks = 1 })
     × RunAnswers (given bad [])
-    (record { ended = Ended.Refused 4 0; steps = 0; records = 0; memory = record { words = memory_of [] }; marks = 1 })
+    (record { ended = Ended.Refused parentless; steps = 0; records = 0; memory = record { words = memory_of [] }; marks = 1 })
     usual_trace

@@ -2,61 +2,102 @@
 -- text, and a word that is compared with a key.
 use Prim.Native.Nat.{ℕ, zero, suc, ◌+◌, ◌-◌, ◌≤◌, ◌<◌, min}
 use native.Mathlib.Omega.{arith}
-use mathlib.Core.Bool.{Bool, true, false, ◌&&◌, ◌||◌}
+use mathlib.Core.Bool.{true≢false, Bool, true, false, ◌&&◌, ◌||◌}
 use mathlib.Core.List.{List, [], ◌∷◌}
 use mathlib.Core.Path.{◌≡◌, refl, sym, ap, ap₂, subst, ◌∙◌}
 use lib.Dec.{leb, ltb, eqb}
 use lib.ListN.{length, get_or, take, drop, drop_of_length-le, length-take, length-drop}
-use lib.Seq.{take_all, take-nil}
-use borrow.Author.Tests.{leb-true, leb-false, le-leb, lt-leb, ltb-true, ltb-false, eqb-true, eqb-false, eq-eqb, ne_eqb}
+use lib.Seq.{take_all}
+use borrow.Author.Tests.{eq-eqb, ne_eqb, leb-true, leb-false, ltb-true, ltb-false, eqb-true, eqb-false}
+use Rattle.std.proofs.Common.{Option, None, Some}
+use Rattle.std.proofs.lemmas.List.{get_or-drop}
+use Rattle.std.proofs.Common.{rules}
+use Rattle.std.proofs.lemmas.Bool.Decides.{same_from_decides}
+use Rattle.std.proofs.lemmas.Slice.Eq.{compares_Decides}
+use Rattle.std.specs.Char.{is_ascii_alphanumeric}
+use Rattle.std.specs.Int.{is_in_range}
+use Rattle.std.specs.List.{AllWithin, HoldsAt}
+use Rattle.std.specs.Option.{MatchOption, unwrap_or}
 use Rattle.lines.specs.Numbers.{is_digit}
 use Rattle.lines.proofs.NumberLaws.{drop_next}
 use Rattle.language.specs.Words.{is_blank, is_letter, is_joining, word, joins, grown, on_byte, words_from}
 use Rattle.language.specs.Tokens.{same}
 use Rattle.language.specs.declared.Part.{Part}
-use Rattle.language.specs.Readings.{part_at, handed}
+use Rattle.language.specs.Readings.{part_at}
 use Rattle.language.proofs.Faults.{joining_blank}
 use Rattle.spans.specs.declared.Span.{Span}
 use Rattle.spans.specs.Cut.{from, part, Begun, Cut, JoinedTo}
 
 -- ---- blanks, letters and digits
 
-pub blank_space : (byte : ℕ) → byte ≡ 32 → true ≡ is_blank byte
-unfolding is_blank
-blank_space byte e = sym (ap is_blank e)
-
-pub blank_other : (byte : ℕ) → (byte ≡ 32 → ⊥) → eqb byte 10 ≡ is_blank byte
-unfolding is_blank
-blank_other byte ne = sym (ap (λ (b : Bool). b || eqb byte 10) (ne_eqb byte 32 ne))
-
-or-false : (b : Bool) → (b || false) ≡ b
-or-false true = refl
-or-false false = refl
-
-pub joining_lower : (byte : ℕ) → 97 ≤ byte → leb byte 122 ≡ is_joining byte
+pub joining_is : (byte : ℕ) → is_ascii_alphanumeric byte ≡ is_joining byte
 unfolding is_joining is_letter is_digit
-joining_lower byte h =
-    simp (
-      le-leb 65 byte (omega arith),
-      lt-leb byte 90 (omega arith),
-      le-leb 97 byte h,
-      le-leb 48 byte (omega arith),
-      lt-leb byte 57 (omega arith),
-      or-false,
-    )
+joining_is byte = turned (is_in_range 48 57 byte) (is_in_range 65 90 byte) (is_in_range 97 122 byte)
+  where
+    turned : (a b c : Bool) → ((a || b) || c) ≡ ((b || c) || a)
+    turned true true true = refl
+    turned true true false = refl
+    turned true false true = refl
+    turned true false false = refl
+    turned false true c = refl
+    turned false false true = refl
+    turned false false false = refl
 
-pub joining_upper : (byte : ℕ) → 65 ≤ byte → byte < 97 → leb byte 90 ≡ is_joining byte
-unfolding is_joining is_letter is_digit
-joining_upper byte h k =
-    simp (le-leb 65 byte h, lt-leb 97 byte k, le-leb 48 byte (omega arith), lt-leb byte 57 (omega arith), or-false)
+-- ---- how far bytes of a sort stand
 
-pub joining_digit : (byte : ℕ) → 48 ≤ byte → byte < 65 → leb byte 57 ≡ is_joining byte
-unfolding is_joining is_letter is_digit
-joining_digit byte h k = simp (lt-leb 65 byte k, lt-leb 97 byte (omega arith), le-leb 48 byte h)
+-- A test passes from a place to another, and not there.
+pub record RunTo (test : ℕ → Bool) (text : List ℕ) (at end : ℕ) : Type 0 where
+  pub later : at ≤ end
+  pub inside : end ≤ length text
+  pub run : (i : ℕ) → i < end → at ≤ i → test (get_or text i 0) ≡ true
+  pub over : end < length text → test (get_or text end 0) ≡ false
 
-pub joining_under : (byte : ℕ) → byte < 48 → false ≡ is_joining byte
-unfolding is_joining is_letter is_digit
-joining_under byte h = simp (lt-leb 65 byte (omega arith), lt-leb 97 byte (omega arith), lt-leb 48 byte h)
+-- what the first byte that fails the test says, from a place on
+pub run_to : (test : ℕ → Bool) (text : List ℕ) (at : ℕ) (found : Option ℕ) → at ≤ length text
+    → let rest = take (length text - at) (drop at text) in
+    MatchOption found (AllWithin (λ b. test b ≡ true) rest 0 (length rest))
+    (λ i. (i < length rest) × HoldsAt (λ b. test b ≡ false) rest i × AllWithin (λ b. test b ≡ true) rest 0 i)
+    → RunTo test text at (at + unwrap_or found (length rest))
+run_to test text at found h first = by found first
+  where
+    rest : List ℕ
+    rest = take (length text - at) (drop at text)
+
+    all_of_it : take (length text - at) (drop at text) ≡ drop at text
+    all_of_it = take_all (length text - at) (drop at text) (simp length-drop (omega arith))
+
+    size : length (take (length text - at) (drop at text)) ≡ length text - at
+    size = ap length all_of_it ∙ length-drop at text
+
+    byte : (i k : ℕ) → at + k ≡ i → get_or (take (length text - at) (drop at text)) k 0 ≡ get_or text i 0
+    byte i k e = ap (λ (l : List ℕ). get_or l k 0) all_of_it ∙ get_or-drop at text k 0 ∙ ap (λ (j : ℕ). get_or text j 0) e
+
+    by : (found : Option ℕ)
+        → MatchOption found (AllWithin (λ b. test b ≡ true) (take (length text - at) (drop at text)) 0 (length (take (length text - at) (drop at text))))
+        (λ i. (i < length (take (length text - at) (drop at text))) × HoldsAt (λ b. test b ≡ false) (take (length text - at) (drop at text)) i
+        × AllWithin (λ b. test b ≡ true) (take (length text - at) (drop at text)) 0 i)
+        → RunTo test text at (at + unwrap_or found (length (take (length text - at) (drop at text))))
+    by None all =
+        let long = size in
+        record {
+          later = omega arith;
+          inside = omega arith;
+          run = λ i k l. sym (ap test (byte i (i - at) (omega arith))) ∙ all (i - at) 0 (omega arith) (omega arith);
+          over = λ k. absurd (omega arith);
+        }
+    by (Some n) some =
+        let long = size in
+        let within : n < length (take (length text - at) (drop at text)) = some.0 in
+        record {
+          later = omega arith;
+          inside = omega arith;
+          run = λ i k l. sym (ap test (byte i (i - at) (omega arith))) ∙ some.2 (i - at) 0 (omega arith) (omega arith);
+          over = λ k. sym (ap test (byte (at + n) n refl)) ∙ some.1 0;
+        }
+
+-- where letters and digits stand
+pub joined_run : {text : List ℕ} {at end : ℕ} → RunTo is_joining text at end → JoinedTo text at end
+joined_run r = record { later = r.later; inside = r.inside; run = r.run; over = r.over }
 
 -- ---- a part of a text
 
@@ -66,52 +107,13 @@ part_next text start end h k =
     let size : end - start ≡ suc (end - (start + 1)) = omega arith in
     ap₂ take size (drop_next text start k)
 
-part_one : (text : List ℕ) (start : ℕ) → start < length text → part text start (start + 1) ≡ get_or text start 0 ∷ []
+pub part_one : (text : List ℕ) (start : ℕ) → start < length text → part text start (start + 1) ≡ get_or text start 0 ∷ []
 part_one text start k =
     let size : (start + 1) - start ≡ 1 = omega arith in
     ap₂ take size (drop_next text start k)
 
 pub part_length : (text : List ℕ) (start end : ℕ) → end ≤ length text → length (part text start end) ≡ end - start
 part_length text start end h = simp (length-take, length-drop) (omega arith)
-
--- a part that ends with the text, where it was to end beyond it
-pub part_within : (text : List ℕ) (start end stop : ℕ) → stop ≡ min end (length text) → part text start stop ≡ part text start end
-part_within text start end stop e = by (leb end (length text)) refl
-  where
-    by : (b : Bool) → leb end (length text) ≡ b → part text start stop ≡ part text start end
-    by true f =
-        let h = leb-true end (length text) f in
-        let q : stop ≡ end = omega arith in
-        ap (part text start) q
-    by false f =
-        let h = leb-false end (length text) f in
-        take_all (stop - start) (drop start text) (simp length-drop (omega arith))
-        ∙ sym (take_all (end - start) (drop start text) (simp length-drop (omega arith)))
-
-pub part_none : (text : List ℕ) (start end stop : ℕ) → stop ≡ min end (length text) → stop ≤ start → [] ≡ part text start end
-part_none text start end stop e h =
-    let size : 0 ≡ stop - start = omega arith in
-    ap (λ (n : ℕ). take n (drop start text)) size ∙ part_within text start end stop e
-
--- a part that is handed back, with as much of it as stands in the text
-pub handed_within : (text : List ℕ) (p : Part) (start size : ℕ) → start ≡ min p.start (length text) → size ≡ min p.size (length text - start)
-    → part text start (start + size) ≡ handed text p
-handed_within text p start size e f = by (leb p.start (length text)) refl
-  where
-    by : (b : Bool) → leb p.start (length text) ≡ b → part text start (start + size) ≡ handed text p
-    by true g =
-        let h = leb-true p.start (length text) g in
-        let within : start + size ≡ min (p.start + p.size) (length text) = omega arith in
-        let first : start ≡ p.start = omega arith in
-        let all : (p.start + p.size) - start ≡ p.size = omega arith in
-        part_within text start (p.start + p.size) (start + size) within
-        ∙ ap₂ (λ (n k : ℕ). take n (drop k text)) all first
-    by false g =
-        let h = leb-false p.start (length text) g in
-        ap (λ (l : List ℕ). take ((start + size) - start) l) (drop_of_length-le text {i = start} (omega arith))
-        ∙ take-nil ((start + size) - start)
-        ∙ sym (take-nil p.size)
-        ∙ sym (ap (λ (l : List ℕ). take p.size l) (drop_of_length-le text {i = p.start} (omega arith)))
 
 -- ---- the words from a place on, by the byte there
 
@@ -131,6 +133,31 @@ words_blank text at h e =
     sym
     (words_on text at h
     ∙ ap (λ (b : Bool). on_byte b (is_joining (get_or text at 0) && joins (drop (at + 1) text)) at (get_or text at 0) (from text (at + 1))) e)
+
+-- where blanks stand from some place on
+pub begun_run : (text : List ℕ) (at first start : ℕ) → first ≡ min at (length text) → RunTo is_blank text first start → Begun text at start
+begun_run text at first start e r =
+    record {
+      inside = r.inside;
+      later = λ h. omega (arith, r.later);
+      same = sym (passed (start - first) first (omega (arith, r.later)) r.run) ∙ begins (leb at (length text)) refl;
+      shown = r.over;
+    }
+  where
+    passed : (n i : ℕ) → i + n ≡ start → ((k : ℕ) → k < start → i ≤ k → is_blank (get_or text k 0) ≡ true) → from text i ≡ from text start
+    passed zero i q blanks = ap (from text) (omega arith)
+    passed (suc n) i q blanks =
+        let inside = r.inside in
+        sym (words_blank text i (omega arith) (blanks i (omega arith) (omega arith)))
+        ∙ passed n (i + 1) (omega arith) (λ k h l. blanks k h (omega arith))
+
+    begins : (b : Bool) → leb at (length text) ≡ b → from text first ≡ from text at
+    begins true f =
+        let h = leb-true at (length text) f in
+        ap (from text) (omega arith)
+    begins false f =
+        let h = leb-false at (length text) f in
+        words_end text first (omega arith) ∙ sym (words_end text at (omega arith))
 
 words_one : (text : List ℕ) (at : ℕ) → at < length text → is_blank (get_or text at 0) ≡ false
     → (is_joining (get_or text at 0) && joins (drop (at + 1) text)) ≡ false
@@ -318,7 +345,7 @@ begun_once {text} {at} {start} {other} b c = sym (place b (ltb start (length tex
     place {i} d true h = ahead d (ltb-true i (length text) h)
     place {i} d false h = past d (ltb-false i (length text) h)
 
--- ---- a key and a word, byte by byte
+-- ---- a key and a word
 
 same_both : (key word : List ℕ) (i : ℕ) → i < length key → i < length word
     → same (drop i key) (drop i word) ≡ (eqb (get_or key i 0) (get_or word i 0) && same (drop (i + 1) key) (drop (i + 1) word))
@@ -345,12 +372,6 @@ same_end key word i h k = sym (ap₂ same (drop_of_length-le key h) (drop_of_len
 
 pub same_lengths : (key word : List ℕ) → (length word ≡ length key → ⊥) → false ≡ same key word
 unfolding same
-same_lengths [] [] ne = absurd (ne refl)
-same_lengths [] (byte ∷ word) ne = refl
-same_lengths (letter ∷ key) [] ne = refl
-same_lengths (letter ∷ key) (byte ∷ word) ne =
-    by (eqb letter byte) (same_lengths key word (λ e. ne (ap suc e)))
-  where
-    by : (b : Bool) → false ≡ same key word → false ≡ (b && same key word)
-    by true e = e
-    by false e = refl
+same_lengths key word ne =
+    same_from_decides false (same key word) ((λ e. absurd (true≢false (sym e))), λ e. absurd (ne (sym (ap length e))))
+    (compares_Decides same (search rules) key word)

@@ -1,19 +1,17 @@
 -- The statement that is next, kind by kind: what its parts need, and the rules' step from what each part did.
 use Prim.Native.Nat.{ℕ, ◌+◌, ◌-◌, ◌≤◌, ◌<◌}
 use native.Mathlib.Omega.{arith}
-use mathlib.Core.Bool.{Bool, true, false, cond, ◌||◌, ◌&&◌}
-use mathlib.Core.List.{List, [], ◌∷◌}
+use mathlib.Core.Bool.{Bool, true, false, cond, ◌||◌, ◌&&◌, true≢false}
+use Rattle.std.specs.Prelude.{Result, Ok, Err, is_err}
+use mathlib.Core.List.{List, ◌∷◌}
 use mathlib.Core.Logic.{◌≢◌}
 use mathlib.Core.Path.{◌≡◌, refl, sym, ap, ap₂, ◌∙◌, subst, subst₂}
 use lib.Dec.{eqb}
 use borrow.Author.Tests.{eqb-true, eqb-false}
-use types.Run.{OneOf, miss}
-use denote.Enum.Declared.{tag_of}
 use lib.ListN.{length, get_or, set, length-set}
 use lib.Seq.{get_or-set_same, get_or-set_other}
 use Rattle.rules.specs.declared.Kind.{Kind}
 use Rattle.rules.specs.declared.Row.{Row}
-use Rattle.rules.specs.Limits.{most_nesting}
 use Rattle.rules.specs.Marks.{put, union, provisional}
 use Rattle.rules.specs.Answers.{terms_of}
 use Rattle.rules.specs.Rows.{is_statement, row_at}
@@ -22,286 +20,313 @@ use Rattle.rules.specs.Values.{value, holds, level}
 use Rattle.rules.specs.Running.{Item, statement, close, state, context, Attempt, denied, roomless}
 use Rattle.rules.specs.Bounds.{need, most_pending, Bounds}
 use Rattle.rules.proofs.MarkLaws.{none_zero}
-use Rattle.rules.proofs.BoundLaws.{need_pos, few_closes, few_pending}
+use Rattle.rules.proofs.BoundLaws.{need_pos}
 use Rattle.rules.proofs.StatementLaws.{Below, is_skip, is_assign, is_if, is_while, is_output}
-use Rattle.step.specs.declared.Held.{Held}
-use Rattle.step.specs.contracts.Turn as turn-type
-use Rattle.step.specs.declared.Turn.{Turn}
-use Rattle.step.specs.declared.Turn.TheVariants.{Went, Stopped, NoRoom}
-use Rattle.step.specs.Denoted.{items_of, sets_of, log_of, Arrays, arrays, Entry, Entries, Holds}
-use Rattle.step.specs.Turns.{Says, Goes, Stays, Ready, Statement, Opened, Branched, Looped, Apart, Found, denies, passed, closed_held, assigned_words, assigned_held, CanAssign, CanBranch, CanLoop, CanPutOut, PutOut, Applied, Turned}
-use Rattle.step.proofs.ArrayLaws.{item_statement, items_pop, items_length, items_same, entries_top, entries_same, sets_length, context_law}
+use Rattle.step.specs.declared.Halt.{Halt}
+use Rattle.step.specs.declared.Machine.{Machine}
+use Rattle.step.specs.Denoted.{items_of, sets_of, log_of, Held, Arrays, arrays, arrays_of, held_of, Entry, Entries, Holds}
+use Rattle.step.specs.Turns.{Turn, Went, Stopped, NoRoom, turn_of, Says, Goes, Stays, Ready, Statement, Opened, Branched, Looped, Apart, Found, denies, passed, closed_held, Passed, assigned_words, assigned_held, CanAssign, CanBranch, CanLoop, CanPutOut, PutOut, Applied, Turned}
+use Rattle.step.proofs.ArrayLaws.{item_statement, items_pop, items_same, entries_top, entries_same, context_law}
 use Rattle.step.proofs.StepLaws.{close_law, close_empty_law, entry_of, pile_room, pending_room, skip_law, assign_law, then_law, else_law, turn_law, leave_law, denied_law, roomless_law, record_law}
 
-module _ (rows : List Row) (w e p t : List ℕ) (h : Held) (at : Holds rows (arrays w e p t) h) (i : ℕ) (row : Row) (found : Found rows e h.pending i row) where
-  abbrev n : ℕ
-  n = h.pending - 1
+-- the arrays are as they were
+same_arrays : (s s' : Machine) (t : List ℕ) (h' : Held) → Passed s s' h' → ◌≡◌ {A = Arrays} (arrays_of s' t) (arrays_of s t)
+same_arrays s s' t h' given = λ i. arrays (given.words i) (given.entries i) (given.sets i) t
 
-  top : h.pending ≡ n + 1
-  top = omega (arith, found.some)
+-- .. and what is held is this
+passes :
+    (rows : List Row) (a : Arrays) (h : Held) (s s' : Machine) (t : List ℕ) (h' : Held) → Passed s s' h' → Goes rows a h (arrays_of s t) h'
+    → Goes rows a h (arrays_of s' t) (held_of s')
+passes rows a h s s' t h' given x =
+    subst₂ (Goes rows a h) (sym (same_arrays s s' t h' given)) (sym given.held) x
 
-  some : get_or e n 0 ≢ 0
-  some z = omega (arith, found.next)
+module _
+    (rows : List Row) (s : Machine) (t : List ℕ) (at : Holds rows (arrays_of s t) (held_of s)) (i : ℕ) (row : Row)
+    (found : Found rows s.pending.items s.pending.len i row)
+  where
+    abbrev w : List ℕ
+    w = s.words
 
-  -- the entry names row i
-  named : stmt_at rows (get_or e n 0 - 1) ≡ stmt_at rows i
-  named = ap (stmt_at rows) (let g : get_or e n 0 - 1 ≡ i = omega (arith, found.next) in g)
+    abbrev e : List ℕ
+    e = s.pending.items
 
-  -- row i is a statement
-  pub sort : is_statement row.kind ≡ true
-  sort =
-      ap (λ (r : Row). is_statement r.kind) found.read
-      ∙ subst (λ (j : ℕ). is_statement (row_at rows j).kind ≡ true) (let g : get_or e n 0 - 1 ≡ i = omega (arith, found.next) in g)
-      (entries_top rows e n (subst (Entries rows e) top at.named) some).1
+    abbrev p : List ℕ
+    p = s.pile.items
 
-  ready : (s : Stmt) → stmt_at rows i ≡ s → 1 ≤ nesting s → (more : ℕ) → more + 1 ≤ need s → Ready rows e p h more
-  ready s stands deep more enough = record {
-    sound = at.sound;
-    entries_long = at.entries_long;
-    pile_long = at.pile_long;
-    low = pile_room rows w e p t h at n top s some (named ∙ stands) deep;
-    some = found.some;
-    few = omega (arith, pending_room rows w e p t h at n top s some (named ∙ stands), found.some);
-    named = at.named;
-  }
+    abbrev h : Held
+    h = held_of s
 
-  -- the children of row i are in the table
-  inside : {c : ℕ} → c < i → c < length rows
-  inside low = omega (arith, low, found.within)
+    abbrev n : ℕ
+    n = h.pending - 1
 
-  entry : {c : ℕ} → Below rows i c → Statement rows c
-  entry {c} below = (entry_of rows c (inside below.lower) below.sort, inside below.lower)
+    top : h.pending ≡ n + 1
+    top = omega (arith, found.some)
 
-  -- ---- skip
+    some : get_or e n 0 ≢ 0
+    some z = omega (arith, found.next)
 
-  pub arm_skip : row.kind ≡ Kind.Skip → Goes rows (arrays w e p t) h (arrays w e p t) (passed h h.marks)
-  arm_skip kind = skip_law rows w e p t h at n top some (named ∙ is_skip rows at.sound i found.within row found.read kind)
+    -- the entry names row i
+    named : stmt_at rows (get_or e n 0 - 1) ≡ stmt_at rows i
+    named = ap (stmt_at rows) (let g : get_or e n 0 - 1 ≡ i = omega (arith, found.next) in g)
 
-  -- ---- assign
+    -- row i is a statement
+    pub sort : is_statement row.kind ≡ true
+    sort =
+        ap (λ (r : Row). is_statement r.kind) found.read
+        ∙ subst (λ (j : ℕ). is_statement (row_at rows j).kind ≡ true) (let g : get_or e n 0 - 1 ≡ i = omega (arith, found.next) in g)
+        (entries_top rows e n (subst (Entries rows e) top at.named) some).1
 
-  pub assign_needs : row.kind ≡ Kind.Assign → CanAssign rows w h row
-  assign_needs kind =
-      let is = is_assign rows at.sound i found.within row found.read kind in
-      (at.sound, at.words_long, inside is.2, is.1, found.some)
+    ready : (stmt : Stmt) → stmt_at rows i ≡ stmt → 1 ≤ nesting stmt → (more : ℕ) → more + 1 ≤ need stmt → Ready rows s more
+    ready stmt stands deep more enough = record {
+      sound = at.sound;
+      low = pile_room rows w e p t h at n top stmt some (named ∙ stands) deep;
+      some = found.some;
+      few = omega (arith, pending_room rows w e p t h at n top stmt some (named ∙ stands), found.some);
+      named = at.named;
+    }
 
-  pub arm_assign :
-      row.kind ≡ Kind.Assign → (w' : List ℕ) (h' : Held) → w' ≡ assigned_words rows w row → h' ≡ assigned_held rows h row
-      → Goes rows (arrays w e p t) h (arrays w' e p t) h'
-  arm_assign kind w' h' ew eh =
-      let is = is_assign rows at.sound i found.within row found.read kind in
-      let x : Expr = expr_at rows row.q in
-      subst (λ (y : List ℕ). Goes rows (arrays w e p t) h (arrays y e p t) h') (sym ew)
-      (subst (Goes rows (arrays w e p t) h (arrays (set w row.p (value w x)) e p t)) (sym eh)
-      (assign_law rows w e p t h at n top row.p x some (named ∙ is.0) _
-      (ap (λ (b : Bool). put row.p (provisional (level h.marks x) || b) h.marks) (sym (context_law p h.pile)))))
+    -- the children of row i are in the table
+    inside : {c : ℕ} → c < i → c < length rows
+    inside low = omega (arith, low, found.within)
 
-  -- ---- if
+    entry : {c : ℕ} → Below rows i c → Statement rows c
+    entry {c} below = (entry_of rows c (inside below.lower) below.sort, inside below.lower)
 
-  pub if_needs : row.kind ≡ Kind.If → CanBranch rows w e p h row
-  if_needs kind =
-      let is = is_if rows at.sound i found.within row found.read kind in (
-        ready (if (expr_at rows row.p) (stmt_at rows row.q) (stmt_at rows row.r)) is.0 (omega arith) 1 (omega (arith, need_pos (stmt_at rows row.q))),
-        at.words_long,
-        inside is.1,
-        entry is.2,
-        entry is.3,
-      )
+    -- ---- skip
 
-  pub arm_if :
-      row.kind ≡ Kind.If → (e' p' : List ℕ) (h' : Held) → Branched rows w e p h row e' p' h' → Goes rows (arrays w e p t) h (arrays w e' p' t) h'
-  arm_if kind e' p' h' branched = by (holds w (expr_at rows row.p)) refl
-    where
-      stands : stmt_at rows (get_or e n 0 - 1) ≡ if (expr_at rows row.p) (stmt_at rows row.q) (stmt_at rows row.r)
-      stands = named ∙ (is_if rows at.sound i found.within row found.read kind).0
+    pub arm_skip :
+        row.kind ≡ Kind.Skip → (s' : Machine) → Passed s s' (passed h h.marks) → Goes rows (arrays_of s t) h (arrays_of s' t) (held_of s')
+    arm_skip kind s' given =
+        passes rows (arrays_of s t) h s s' t _ given (skip_law rows w e p t h at n top some (named ∙ is_skip rows at.sound i found.within row found.read kind))
 
-      by : (b : Bool) → holds w (expr_at rows row.p) ≡ b → Goes rows (arrays w e p t) h (arrays w e' p' t) h'
-      by true hold = then_law rows w e p t h at n top (expr_at rows row.p) _ _ some stands hold e' p' h' (branched.then hold)
-      by false hold = else_law rows w e p t h at n top (expr_at rows row.p) _ _ some stands hold e' p' h' (branched.otherwise hold)
+    -- ---- assign
 
-  -- ---- while
+    pub assign_needs : row.kind ≡ Kind.Assign → CanAssign rows s row
+    assign_needs kind =
+        let is = is_assign rows at.sound i found.within row found.read kind in
+        (at.sound, inside is.2, is.1, found.some)
 
-  pub while_needs : row.kind ≡ Kind.While → CanLoop rows w e p h row
-  while_needs kind =
-      let is = is_while rows at.sound i found.within row found.read kind in (
-        ready (while (expr_at rows row.p) (stmt_at rows row.q)) is.0 (omega arith) 2 (omega (arith, need_pos (stmt_at rows row.q))),
-        at.words_long,
-        inside is.1,
-        entry is.2,
-      )
+    pub arm_assign :
+        row.kind ≡ Kind.Assign → (s' : Machine) → s'.words ≡ assigned_words rows w row → held_of s' ≡ assigned_held rows h row
+        → s'.pending.items ≡ e → s'.pile.items ≡ p → Goes rows (arrays_of s t) h (arrays_of s' t) (held_of s')
+    arm_assign kind s' ew eh ee ep =
+        let is = is_assign rows at.sound i found.within row found.read kind in
+        let x : Expr = expr_at rows row.q in
+        let after : ◌≡◌ {A = Arrays} (arrays_of s' t) (arrays (set w row.p (value w x)) e p t) = λ i. arrays (ew i) (ee i) (ep i) t in
+        subst₂ (Goes rows (arrays_of s t) h) (sym after) (sym eh)
+        (assign_law rows w e p t h at n top row.p x some (named ∙ is.0) _
+        (ap (λ (b : Bool). put row.p (provisional (level h.marks x) || b) h.marks) (sym (context_law p h.pile))))
 
-  pub arm_while :
-      row.kind ≡ Kind.While → (e' p' : List ℕ) (h' : Held) → Looped rows w e p h row e' p' h' → Goes rows (arrays w e p t) h (arrays w e' p' t) h'
-  arm_while kind e' p' h' looped = by (holds w (expr_at rows row.p)) refl
-    where
-      stands : stmt_at rows (get_or e n 0 - 1) ≡ while (expr_at rows row.p) (stmt_at rows row.q)
-      stands = named ∙ (is_while rows at.sound i found.within row found.read kind).0
+    -- ---- if
 
-      items : items_of rows e h.pending ≡ statement (while (expr_at rows row.p) (stmt_at rows row.q)) ∷ items_of rows e n
-      items =
-          ap (items_of rows e) top ∙ items_pop rows e n
-          ∙ ap (λ (x : Item). x ∷ items_of rows e n) (item_statement rows (get_or e n 0) some ∙ ap statement stands)
+    pub if_needs : row.kind ≡ Kind.If → CanBranch rows s row
+    if_needs kind =
+        let is = is_if rows at.sound i found.within row found.read kind in (
+          ready (if (expr_at rows row.p) (stmt_at rows row.q) (stmt_at rows row.r)) is.0 (omega arith) 1 (omega (arith, need_pos (stmt_at rows row.q))),
+          inside is.1,
+          entry is.2,
+          entry is.3,
+        )
 
-      by : (b : Bool) → holds w (expr_at rows row.p) ≡ b → Goes rows (arrays w e p t) h (arrays w e' p' t) h'
-      by true hold =
-          turn_law rows w e p t h at n top (expr_at rows row.p) _ some stands hold e' p' h'
-          (subst₂
-          (λ (k : List Item) (c : ℕ). Opened rows p h (statement (stmt_at rows row.q) ∷ close ∷ k) (level h.marks (expr_at rows row.p)) c e' p' h')
-          items (sym none_zero) (looped.turns hold))
-      by false hold = leave_law rows w e p t h at n top (expr_at rows row.p) _ some stands hold e' p' h' (looped.leaves hold)
+    pub arm_if :
+        row.kind ≡ Kind.If → (s' : Machine) → Branched rows s row s'
+        → Goes rows (arrays_of s t) h (arrays_of s' t) (held_of s')
+    arm_if kind s' branched = by (holds w (expr_at rows row.p)) refl
+      where
+        stands : stmt_at rows (get_or e n 0 - 1) ≡ if (expr_at rows row.p) (stmt_at rows row.q) (stmt_at rows row.r)
+        stands = named ∙ (is_if rows at.sound i found.within row found.read kind).0
 
-  -- ---- output
+        by : (b : Bool) → holds w (expr_at rows row.p) ≡ b → Goes rows (arrays_of s t) h (arrays_of s' t) (held_of s')
+        by true hold = then_law rows s t at n top some s' (expr_at rows row.p) _ _ stands hold (branched.then hold)
+        by false hold = else_law rows s t at n top some s' (expr_at rows row.p) _ _ stands hold (branched.otherwise hold)
 
-  pub output_needs : row.kind ≡ Kind.Output → CanPutOut rows w t h row
-  output_needs kind =
-      (at.sound, at.words_long, inside (is_output rows at.sound i found.within row found.read kind).1, found.some, at.written)
+    -- ---- while
 
-  pub arm_output :
-      row.kind ≡ Kind.Output → (t' : List ℕ) (turn : Turn) → PutOut i row.p (expr_at rows row.q) w t h t' turn
-      → Applied rows (arrays w e p t) h (arrays w e p t') turn
-  arm_output kind t' turn out = by turn out
-    where
-      stands : stmt_at rows (get_or e n 0 - 1) ≡ output row.p (expr_at rows row.q) i
-      stands = named ∙ (is_output rows at.sound i found.within row found.read kind).0
+    pub while_needs : row.kind ≡ Kind.While → CanLoop rows s row
+    while_needs kind =
+        let is = is_while rows at.sound i found.within row found.read kind in (
+          ready (while (expr_at rows row.p) (stmt_at rows row.q)) is.0 (omega arith) 2 (omega (arith, need_pos (stmt_at rows row.q))),
+          inside is.1,
+          entry is.2,
+        )
 
-      deny : (b : Bool) → denies row.p (level h.marks (expr_at rows row.q)) h.pile ≡ b
-          → (eqb row.p 0 && (provisional (level h.marks (expr_at rows row.q)) || context (sets_of p h.pile))) ≡ b
-      deny b d = ap (λ (c : Bool). eqb row.p 0 && (provisional (level h.marks (expr_at rows row.q)) || c)) (context_law p h.pile) ∙ d
+    pub arm_while :
+        row.kind ≡ Kind.While → (s' : Machine) → Looped rows s row s'
+        → Goes rows (arrays_of s t) h (arrays_of s' t) (held_of s')
+    arm_while kind s' looped = by (holds w (expr_at rows row.p)) refl
+      where
+        stands : stmt_at rows (get_or e n 0 - 1) ≡ while (expr_at rows row.p) (stmt_at rows row.q)
+        stands = named ∙ (is_while rows at.sound i found.within row found.read kind).0
 
-      -- the turn says what the rules say, and no array has changed
-      left :
-          {said turned : Attempt} → turned ≡ said → t' ≡ t → Says rows (arrays w e p t) h (λ steps. said)
-          → (◌≡◌ {A = Arrays} (arrays w e p t') (arrays w e p t)) × Says rows (arrays w e p t) h (λ steps. turned)
-      left same et x = (ap (arrays w e p) et, λ steps. x steps ∙ sym same)
+        items : items_of rows e h.pending ≡ statement (while (expr_at rows row.p) (stmt_at rows row.q)) ∷ items_of rows e n
+        items =
+            ap (items_of rows e) top ∙ items_pop rows e n
+            ∙ ap (λ (x : Item). x ∷ items_of rows e n) (item_statement rows (get_or e n 0) some ∙ ap statement stands)
 
-      by : (turn : Turn) → PutOut i row.p (expr_at rows row.q) w t h t' turn → Applied rows (arrays w e p t) h (arrays w e p t') turn
-      by (Went h') o =
-          subst (λ (y : List ℕ). Goes rows (arrays w e p t) h (arrays w e p y) h') (sym o.2)
-          (subst (Goes rows (arrays w e p t) h _) (sym o.3)
-          (record_law rows w e p t h at n top row.p (expr_at rows row.q) i some stands (deny false o.0) o.1))
-      by (Stopped row' because) o =
-          left (ap₂ denied o.0 o.2) o.3
-          (denied_law rows w e p t h at n top row.p (expr_at rows row.q) i some stands (deny true o.1))
-      by (NoRoom row') o =
-          left (ap roomless o.0) o.3
-          (roomless_law rows w e p t h at n top row.p (expr_at rows row.q) i some stands (deny false o.1) o.2)
+        by : (b : Bool) → holds w (expr_at rows row.p) ≡ b → Goes rows (arrays_of s t) h (arrays_of s' t) (held_of s')
+        by true hold =
+            turn_law rows s t at n top some s' (expr_at rows row.p) _ stands hold
+            (subst₂
+            (λ (k : List Item) (c : ℕ). Opened rows s (statement (stmt_at rows row.q) ∷ close ∷ k) (level h.marks (expr_at rows row.p)) c s')
+            items (sym none_zero) (looped.turns hold))
+        by false hold = leave_law rows s t at n top some s' (expr_at rows row.p) _ stands hold (looped.leaves hold)
+
+    -- ---- output
+
+    pub output_needs : row.kind ≡ Kind.Output → CanPutOut rows s t row
+    output_needs kind =
+        (at.sound, inside (is_output rows at.sound i found.within row found.read kind).1, found.some, at.written)
+
+    pub arm_output :
+        row.kind ≡ Kind.Output → (s' : Machine) (t' : List ℕ) (turn : Turn) → PutOut i row.p (expr_at rows row.q) w t h t' turn
+        → Passed s s' (held_of s') → Applied rows (arrays_of s t) h (arrays_of s' t') turn
+    arm_output kind s' t' turn out kept =
+        subst (λ (a : Arrays). Applied rows (arrays_of s t) h a turn) (sym (same_arrays s s' t' (held_of s') kept)) (by turn out)
+      where
+        stands : stmt_at rows (get_or e n 0 - 1) ≡ output row.p (expr_at rows row.q) i
+        stands = named ∙ (is_output rows at.sound i found.within row found.read kind).0
+
+        deny : (b : Bool) → denies row.p (level h.marks (expr_at rows row.q)) h.pile ≡ b
+            → (eqb row.p 0 && (provisional (level h.marks (expr_at rows row.q)) || context (sets_of p h.pile))) ≡ b
+        deny b d = ap (λ (c : Bool). eqb row.p 0 && (provisional (level h.marks (expr_at rows row.q)) || c)) (context_law p h.pile) ∙ d
+
+        -- the turn says what the rules say, and no array has changed
+        left :
+            {said turned : Attempt} → turned ≡ said → t' ≡ t → Says rows (arrays w e p t) h (λ steps. said)
+            → (◌≡◌ {A = Arrays} (arrays w e p t') (arrays w e p t)) × Says rows (arrays w e p t) h (λ steps. turned)
+        left same et x = (ap (arrays w e p) et, λ steps. x steps ∙ sym same)
+
+        by : (turn : Turn) → PutOut i row.p (expr_at rows row.q) w t h t' turn → Applied rows (arrays w e p t) h (arrays w e p t') turn
+        by (Went h') o =
+            subst (λ (y : List ℕ). Goes rows (arrays w e p t) h (arrays w e p y) h') (sym o.2)
+            (subst (Goes rows (arrays w e p t) h _) (sym o.3)
+            (record_law rows w e p t h at n top row.p (expr_at rows row.q) i some stands (deny false o.0) o.1))
+        by (Stopped row' because) o =
+            left (ap₂ denied o.0 o.2) o.3
+            (denied_law rows w e p t h at n top row.p (expr_at rows row.q) i some stands (deny true o.1))
+        by (NoRoom row') o =
+            left (ap roomless o.0) o.3
+            (roomless_law rows w e p t h at n top row.p (expr_at rows row.q) i some stands (deny false o.1) o.2)
 
 -- ---- the step as a whole
 
-module _ (rows : List Row) (w e p t : List ℕ) (h : Held) (at : Holds rows (arrays w e p t) h) where
-  pub few_entries : h.pending ≤ most_pending
-  few_entries = omega (arith, few_pending (items_of rows e h.pending) at.bounds.roomy, items_length rows e h.pending)
-
-  pub few_sets : h.pile ≤ most_nesting
-  few_sets =
-      omega (arith, few_closes (items_of rows e h.pending) at.bounds.roomy, at.bounds.pile, sets_length p h.pile)
-
+module _ (rows : List Row) (s : Machine) (t : List ℕ) (at : Holds rows (arrays_of s t) (held_of s)) where
   pub arm_close :
-      0 < h.pending → get_or e (h.pending - 1) 0 ≡ 0 → (h' : Held) → h' ≡ closed_held p h → Goes rows (arrays w e p t) h (arrays w e p t) h'
-  arm_close some zeroth h' is = subst (Goes rows (arrays w e p t) h (arrays w e p t)) (sym is) (by (eqb h.pile 0) refl)
+      0 < s.pending.len → get_or s.pending.items (s.pending.len - 1) 0 ≡ 0 → (s' : Machine) → Passed s s' (closed_held s.pile.items (held_of s))
+      → Goes rows (arrays_of s t) (held_of s) (arrays_of s' t) (held_of s')
+  arm_close some zeroth s' given = passes rows (arrays_of s t) (held_of s) s s' t _ given (by (eqb s.pile.len 0) refl)
     where
       closed : Bool → Held
       closed b =
-          cond b (passed h h.marks)
-          (record { pending = h.pending - 1; pile = h.pile - 1; records = h.records; marks = union (get_or p (h.pile - 1) 0) h.marks })
+          cond b (passed (held_of s) s.marks)
+          (record { pending = s.pending.len - 1; pile = s.pile.len - 1; records = s.records; marks = union (get_or s.pile.items (s.pile.len - 1) 0) s.marks })
 
-      by : (b : Bool) → eqb h.pile 0 ≡ b → Goes rows (arrays w e p t) h (arrays w e p t) (closed_held p h)
+      by : (b : Bool) → eqb s.pile.len 0 ≡ b → Goes rows (arrays s.words s.pending.items s.pile.items t) (held_of s) (arrays s.words s.pending.items s.pile.items t) (closed_held s.pile.items (held_of s))
       by true z =
-          subst (λ (b : Bool). Goes rows (arrays w e p t) h (arrays w e p t) (closed b)) (sym z)
-          (close_empty_law rows w e p t h at (h.pending - 1) (omega arith) zeroth (eqb-true h.pile 0 z))
+          subst (λ (b : Bool). Goes rows (arrays s.words s.pending.items s.pile.items t) (held_of s) (arrays s.words s.pending.items s.pile.items t) (closed b)) (sym z)
+          (close_empty_law rows s.words s.pending.items s.pile.items t (held_of s) at (s.pending.len - 1) (omega arith) zeroth (eqb-true s.pile.len 0 z))
       by false z =
-          let other : h.pile ≢ 0 = eqb-false h.pile 0 z in
-          subst (λ (b : Bool). Goes rows (arrays w e p t) h (arrays w e p t) (closed b)) (sym z)
-          (close_law rows w e p t h at (h.pending - 1) (omega arith) zeroth (h.pile - 1) (omega arith))
+          let other : s.pile.len ≢ 0 = eqb-false s.pile.len 0 z in
+          subst (λ (b : Bool). Goes rows (arrays s.words s.pending.items s.pile.items t) (held_of s) (arrays s.words s.pending.items s.pile.items t) (closed b)) (sym z)
+          (close_law rows s.words s.pending.items s.pile.items t (held_of s) at (s.pending.len - 1) (omega arith) zeroth (s.pile.len - 1) (omega arith))
 
-  -- the statement that is next, once its row is read
+  -- the statement that is next
   pub found_next :
-      0 < h.pending → (entry : ℕ) → entry ≡ get_or e (h.pending - 1) 0 → entry ≢ 0 → (entry - 1 < length rows)
-      × ((row : Row) → row ≡ row_at rows (entry - 1) → Found rows e h.pending (entry - 1) row)
-  found_next some entry is other =
-      let back : h.pending - 1 + 1 ≡ h.pending = omega arith in
-      let named : Entry rows (get_or e (h.pending - 1) 0) =
-      entries_top rows e (h.pending - 1) (subst (Entries rows e) (sym back) at.named)
+      0 < s.pending.len → (i : ℕ) → get_or s.pending.items (s.pending.len - 1) 0 ≡ i + 1
+      → Found rows s.pending.items s.pending.len i (row_at rows i)
+  found_next some i is =
+      let back : s.pending.len - 1 + 1 ≡ s.pending.len = omega arith in
+      let named : Entry rows (get_or s.pending.items (s.pending.len - 1) 0) =
+      entries_top rows s.pending.items (s.pending.len - 1) (subst (Entries rows s.pending.items) (sym back) at.named)
       in
-      let within : entry ≤ length rows = subst (λ (x : ℕ). x ≤ length rows) (sym is) (named (λ z. other (is ∙ z))).0 in
-      (omega arith, λ row read. record { some = some; next = sym is ∙ (let g : entry ≡ entry - 1 + 1 = omega arith in g); read = read; within = omega arith })
+      let within : i + 1 ≤ length rows = subst (λ (x : ℕ). x ≤ length rows) is (named (λ z. omega arith)).0 in
+      record { some = some; next = is; read = refl; within = omega arith }
 
-  module _ (e₁ : List ℕ) (m : ℕ) (apart : Apart rows e h.pending e₁ m) where
-    abbrev h₁ : Held
-    h₁ = record { pending = m; pile = h.pile; records = h.records; marks = h.marks }
-
-    pub holds_apart : Holds rows (arrays w e₁ p t) (record { pending = m; pile = h.pile; records = h.records; marks = h.marks })
-    holds_apart = record {
-      sound = at.sound;
-      words_long = at.words_long;
-      entries_long = apart.entries_long;
-      pile_long = at.pile_long;
-      named = apart.named;
-      bounds = apart.bounds h.marks (sets_of p h.pile) at.bounds;
-      written = at.written;
-    }
+  module _ (s₁ : Machine) (apart : Apart rows s.pending.items s.pending.len s₁.pending.items s₁.pending.len) (rest : s₁ ≡ record s { pending = s₁.pending }) where
+    pub holds_apart : Holds rows (arrays_of s₁ t) (held_of s₁)
+    holds_apart =
+        subst (λ (m : Machine). Holds rows (arrays_of m t) (held_of m)) (sym rest)
+        (record {
+          sound = at.sound;
+          words_long = at.words_long;
+          entries_long = apart.entries_long;
+          pile_long = at.pile_long;
+          named = apart.named;
+          bounds = apart.bounds s.marks (sets_of s.pile.items s.pile.len) at.bounds;
+          written = at.written;
+        })
 
     -- what is said of the state taken apart is said of the state before
-    says_apart : (said : ℕ → Attempt) → Says rows (arrays w e₁ p t) h₁ said → Says rows (arrays w e p t) h said
+    says_apart : (said : ℕ → Attempt) → Says rows (arrays_of s₁ t) (held_of s₁) said → Says rows (arrays_of s t) (held_of s) said
     says_apart said x steps =
-        apart.same (terms_of (length t)) w h.marks (sets_of p h.pile) (log_of t h.records steps) ∙ x steps
+        apart.same (terms_of (length t)) s.words s.marks (sets_of s.pile.items s.pile.len) (log_of t s.records steps)
+        ∙ subst (λ (m : Machine). Says rows (arrays_of m t) (held_of m) said) rest x steps
 
     -- a turn that went, from there
     pub went_apart :
-        (turn : Turn) → OneOf (0 ∷ []) (tag_of turn-type.the_type turn) → (a' : Arrays) → Applied rows (arrays w e₁ p t) h₁ a' turn
-        → Turned rows (arrays w e p t) h a' turn
-    went_apart (Went h') among a' x = record { step = says_apart _ x.step; holds = x.holds; kept = x.kept; more = x.more }
-    went_apart (Stopped row because) among a' x = absurd (miss (0 ∷ []) 1 tt among)
-    went_apart (NoRoom row) among a' x = absurd (miss (0 ∷ []) 2 tt among)
+        {A : Type 0} (r : Result A Halt) → is_err r ≡ false → (a' : Arrays) (h' : Held) → Applied rows (arrays_of s₁ t) (held_of s₁) a' (turn_of r h')
+        → Turned rows (arrays_of s t) (held_of s) a' (turn_of r h')
+    went_apart (Ok done) fine a' h' x = record {
+      step = says_apart _ x.step;
+      holds = x.holds;
+      kept = x.kept;
+      more = subst (λ (m : Machine). m.records ≤ h'.records) rest x.more;
+    }
+    went_apart (Err halt) fine a' h' x = absurd (true≢false fine)
 
     -- where the step was not taken, the entry that was taken apart is stored again
-    module _ (entry : ℕ) (is : entry ≡ get_or e (h.pending - 1) 0) where
-      long_set : length (set e₁ (h.pending - 1) entry) ≡ most_pending
-      long_set = length-set e₁ (h.pending - 1) entry ∙ apart.entries_long
+    module _ (entry : ℕ) (is : get_or s.pending.items (s.pending.len - 1) 0 ≡ entry) where
+      long_set : length (set s₁.pending.items (s.pending.len - 1) entry) ≡ most_pending
+      long_set = length-set s₁.pending.items (s.pending.len - 1) entry ∙ apart.entries_long
 
-      as_before : (i : ℕ) → i < h.pending → get_or (set e₁ (h.pending - 1) entry) i 0 ≡ get_or e i 0
-      as_before i low = by (eqb i (h.pending - 1)) refl
+      as_before : (i : ℕ) → i < s.pending.len → get_or (set s₁.pending.items (s.pending.len - 1) entry) i 0 ≡ get_or s.pending.items i 0
+      as_before i low = by (eqb i (s.pending.len - 1)) refl
         where
-          inside : h.pending - 1 < length e₁
-          inside = omega (arith, apart.entries_long, few_entries, apart.some)
+          inside : s.pending.len - 1 < length s₁.pending.items
+          inside = omega (arith, apart.entries_long, s.pending.within, apart.some)
 
-          by : (b : Bool) → eqb i (h.pending - 1) ≡ b → get_or (set e₁ (h.pending - 1) entry) i 0 ≡ get_or e i 0
+          by : (b : Bool) → eqb i (s.pending.len - 1) ≡ b → get_or (set s₁.pending.items (s.pending.len - 1) entry) i 0 ≡ get_or s.pending.items i 0
           by true z =
-              let same : i ≡ h.pending - 1 = eqb-true i (h.pending - 1) z in
-              ap (λ (j : ℕ). get_or (set e₁ (h.pending - 1) entry) j 0) same ∙ get_or-set_same e₁ (h.pending - 1) entry 0 inside ∙ is
-              ∙ ap (λ (j : ℕ). get_or e j 0) (sym same)
+              let same : i ≡ s.pending.len - 1 = eqb-true i (s.pending.len - 1) z in
+              ap (λ (j : ℕ). get_or (set s₁.pending.items (s.pending.len - 1) entry) j 0) same ∙ get_or-set_same s₁.pending.items (s.pending.len - 1) entry 0 inside ∙ sym is
+              ∙ ap (λ (j : ℕ). get_or s.pending.items j 0) (sym same)
           by false z =
-              let other : i ≢ h.pending - 1 = eqb-false i (h.pending - 1) z in
-              get_or-set_other e₁ (h.pending - 1) i entry 0 other ∙ apart.kept i (omega arith)
+              let other : i ≢ s.pending.len - 1 = eqb-false i (s.pending.len - 1) z in
+              get_or-set_other s₁.pending.items (s.pending.len - 1) i entry 0 other ∙ apart.kept i (omega arith)
 
-      items_again : items_of rows (set e₁ (h.pending - 1) entry) h.pending ≡ items_of rows e h.pending
-      items_again = items_same rows (set e₁ (h.pending - 1) entry) e h.pending as_before
+      items_again : items_of rows (set s₁.pending.items (s.pending.len - 1) entry) s.pending.len ≡ items_of rows s.pending.items s.pending.len
+      items_again = items_same rows (set s₁.pending.items (s.pending.len - 1) entry) s.pending.items s.pending.len as_before
 
-      stays_apart :
-          (a' : Arrays) → a' ≡ arrays w e₁ p t → (said : Attempt) → Says rows (arrays w e₁ p t) h₁ (λ steps. said)
-          → Stays rows (arrays w e p t) h (arrays a'.words (set a'.entries (h.pending - 1) entry) a'.pile a'.trace) said
-      stays_apart a' unchanged said x =
-          subst
-          (λ (a : Arrays). Stays rows (arrays w e p t) h (arrays a.words (set a.entries (h.pending - 1) entry) a.pile a.trace) said)
-          (sym unchanged)
-          (record {
-            step = says_apart _ x;
-            same = λ steps. ap (λ (k : List Item). state k w h.marks (sets_of p h.pile) (log_of t h.records steps)) items_again;
-            holds = record {
-              sound = at.sound;
-              words_long = at.words_long;
-              entries_long = long_set;
-              pile_long = at.pile_long;
-              named = entries_same rows e (set e₁ (h.pending - 1) entry) h.pending (λ i low. sym (as_before i low)) at.named;
-              bounds = subst (λ (k : List Item). Bounds k h.marks (sets_of p h.pile)) (sym items_again) at.bounds;
-              written = at.written;
-            };
-            trace = refl;
-          })
+      stays_apart : (said : Attempt) → Says rows (arrays_of s₁ t) (held_of s₁) (λ steps. said) → Stays rows (arrays_of s t) (held_of s) (arrays s.words (set s₁.pending.items (s.pending.len - 1) entry) s.pile.items t) said
+      stays_apart said x = record {
+        step = says_apart _ x;
+        same = λ steps. ap (λ (k : List Item). state k s.words s.marks (sets_of s.pile.items s.pile.len) (log_of t s.records steps)) items_again;
+        holds = record {
+          sound = at.sound;
+          words_long = at.words_long;
+          entries_long = long_set;
+          pile_long = at.pile_long;
+          named = entries_same rows s.pending.items (set s₁.pending.items (s.pending.len - 1) entry) s.pending.len (λ i low. sym (as_before i low)) at.named;
+          bounds = subst (λ (k : List Item). Bounds k s.marks (sets_of s.pile.items s.pile.len)) (sym items_again) at.bounds;
+          written = at.written;
+        };
+        trace = refl;
+      }
 
-      -- a turn that did not go
-      pub unwent_apart :
-          (turn : Turn) → OneOf (1 ∷ 2 ∷ []) (tag_of turn-type.the_type turn) → (a' : Arrays) → Applied rows (arrays w e₁ p t) h₁ a' turn
-          → Turned rows (arrays w e p t) h (arrays a'.words (set a'.entries (h.pending - 1) entry) a'.pile a'.trace) turn
-      unwent_apart (Went h') among a' x = absurd (miss (1 ∷ 2 ∷ []) 0 tt among)
-      unwent_apart (Stopped row because) among a' x = stays_apart a' x.0 (denied row because) x.1
-      unwent_apart (NoRoom row) among a' x = stays_apart a' x.0 (roomless row) x.1
+      -- a turn that did not go: the machine afterwards, from the one that was given back
+      module _ (s₂ s₃ : Machine) (t' : List ℕ) (rest' : s₃ ≡ record s₂ { pending = s₃.pending }) (items : s₃.pending.items ≡ set s₂.pending.items (s.pending.len - 1) entry) where
+        arrays_again : ◌≡◌ {A = Arrays} (arrays_of s₂ t') (arrays_of s₁ t) → ◌≡◌ {A = Arrays} (arrays_of s₃ t') (arrays s.words (set s₁.pending.items (s.pending.len - 1) entry) s.pile.items t)
+        arrays_again same =
+            ap (λ (m : Machine). arrays m.words s₃.pending.items m.pile.items t') rest'
+            ∙ ap (λ (x : List ℕ). arrays s₂.words x s₂.pile.items t') items
+            ∙ ap (λ (a : Arrays). arrays a.words (set a.entries (s.pending.len - 1) entry) a.pile a.trace) same
+            ∙ ap (λ (m : Machine). arrays m.words (set s₁.pending.items (s.pending.len - 1) entry) m.pile.items t) rest
+
+        pub unwent_apart :
+            {A : Type 0} (r : Result A Halt) → is_err r ≡ true → (h' h'' : Held) → Applied rows (arrays_of s₁ t) (held_of s₁) (arrays_of s₂ t') (turn_of r h')
+            → Turned rows (arrays_of s t) (held_of s) (arrays_of s₃ t') (turn_of r h'')
+        unwent_apart (Ok done) failed h' h'' x = absurd (true≢false (sym failed))
+        unwent_apart (Err (Halt.Stopped row because)) failed h' h'' x =
+            subst (λ (a : Arrays). Stays rows (arrays_of s t) (held_of s) a (denied row because)) (sym (arrays_again x.0)) (stays_apart (denied row because) x.1)
+        unwent_apart (Err (Halt.NoRoom row)) failed h' h'' x =
+            subst (λ (a : Arrays). Stays rows (arrays_of s t) (held_of s) a (roomless row)) (sym (arrays_again x.0)) (stays_apart (roomless row) x.1)

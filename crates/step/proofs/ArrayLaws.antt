@@ -1,19 +1,17 @@
 -- The arrays as stacks and as a list of records: what a store makes of the items, the sets and the records that they hold.
-use Prim.Native.Nat.{ℕ, zero, suc, ◌+◌, ◌-◌, ◌*◌, ◌%◌, ◌≤◌, ◌<◌, min}
-use native.Mathlib.Nat.{mod-eq_of_lt}
+use Prim.Native.Nat.{ℕ, zero, suc, ◌+◌, ◌-◌, ◌*◌, ◌≤◌, ◌<◌, min}
 use native.Mathlib.Numerals.{add-one}
 use native.Mathlib.Omega.{arith}
 use mathlib.Core.Bool.{Bool, true, false, cond, not, ◌||◌, true≢false}
 use mathlib.Core.List.{List, [], ◌∷◌, ◌++◌, append_assoc}
 use mathlib.Core.Logic.{◌≢◌}
-use mathlib.Core.Path.{◌≡◌, refl, sym, ap, ap₂, ◌∙◌, subst}
+use mathlib.Core.Path.{◌≡◌, refl, sym, ap, ap₂, ◌∙◌, subst, subst₂}
 use lib.Dec.{eqb}
 use lib.ListN.{length, get_or, set, take, drop, length-set, length-append, length-take, length-drop, take-append-drop}
 use lib.Seq.{get_or-set_same, get_or-set_other, take-suc, get_or-drop, ext_get_or}
 use borrow.Author.Tests.{eq-eqb, ne_eqb}
 use Rattle.rules.specs.declared.Row.{Row}
-use Rattle.rules.specs.Limits.{width, most_nesting}
-use Rattle.rules.specs.Marks.{put, provisional}
+use Rattle.rules.specs.Marks.{provisional}
 use Rattle.rules.specs.Trees.{Expr, stmt_at}
 use Rattle.rules.specs.Values.{value, holds, level}
 use Rattle.rules.specs.Answers.{trace_words_of, trace_after}
@@ -23,9 +21,9 @@ use Rattle.expression.specs.declared.values.Valued.{Valued}
 use Rattle.expression.specs.Valued.{valued_of}
 use Rattle.rules.specs.Running.{Item, statement, close, context, push}
 use Rattle.rules.specs.Bounds.{most_pending}
+use Rattle.step.specs.declared.Machine.{Machine}
 use Rattle.step.specs.Denoted.{item_of, items_of, sets_of, records_of, Entry, Entries}
-use Rattle.step.specs.Turns.{guards, denies, Kept, Ready, Pushed, Opened}
-use Rattle.step.specs.declared.Held.{Held}
+use Rattle.step.specs.Turns.{guards, Kept, Ready}
 
 -- ---- one entry
 
@@ -197,18 +195,22 @@ kept_then a b c m n h f g = record {
 
 -- ---- a push that depends on the level of a test and on the context
 
-module _ (pile : List ℕ) (n level x : ℕ) (long : length pile ≡ most_nesting) where
-  guard_law : (b : Bool) → b ≡ guards level n → (provisional level || context (sets_of pile n)) ≡ b
-  guard_law b e = ap (λ (c : Bool). provisional level || c) (context_law pile n) ∙ sym e
+-- the sets, with one more on top where a test of this level or the context is provisional
+abbrev pub pushed_sets : List ℕ → ℕ → ℕ → ℕ → List ℕ
+pushed_sets pile n level x = push (provisional level || context (sets_of pile n)) x (sets_of pile n)
 
-  pub pushed_law : true ≡ guards level n → n < most_nesting → Pushed pile n level x (set pile n x) (n + 1)
-  pushed_law e h = record {
-    long = length-set pile n x ∙ long;
-    sets = sets_push pile n x (omega arith) ∙ sym (ap (λ (b : Bool). push b x (sets_of pile n)) (guard_law true e));
-  }
+module _ (pile : List ℕ) (n level x : ℕ) where
+  guard_law : (b : Bool) → b ≡ guards level n → pushed_sets pile n level x ≡ push b x (sets_of pile n)
+  guard_law b e =
+      ap (λ (c : Bool). push c x (sets_of pile n)) (ap (λ (c : Bool). provisional level || c) (context_law pile n) ∙ sym e)
 
-  pub unpushed_law : false ≡ guards level n → Pushed pile n level x pile n
-  unpushed_law e = record { long = long; sets = sym (ap (λ (b : Bool). push b x (sets_of pile n)) (guard_law false e)) }
+  pub pushed_law :
+      true ≡ guards level n → n < length pile → (pile' : List ℕ) (n' : ℕ) → pile' ≡ set pile n x → n' ≡ n + 1
+      → sets_of pile' n' ≡ pushed_sets pile n level x
+  pushed_law e h pile' n' ep en = ap₂ sets_of ep en ∙ sets_push pile n x h ∙ sym (guard_law true e)
+
+  pub unpushed_law : false ≡ guards level n → sets_of pile n ≡ pushed_sets pile n level x
+  unpushed_law e = sym (guard_law false e)
 
 -- ---- what an if or while opens
 
@@ -232,73 +234,64 @@ module _ (rows : List Row) (e : List ℕ) (n : ℕ) (long : length e ≡ most_pe
   two_long : (x : ℕ) → length (set (set e n 0) (n + 1) (x + 1)) ≡ most_pending
   two_long x = length-set (set e n 0) (n + 1) (x + 1) ∙ length-set e n 0 ∙ long
 
-module _ (rows : List Row) (e p : List ℕ) (h : Held) (level pushed : ℕ) (p' : List ℕ) (height : ℕ) (pile : Pushed p h.pile level pushed p' height) where
-  opened :
-      (k : List Item) (e' : List ℕ) (n : ℕ) → items_of rows e' n ≡ k → Entries rows e' n → length e' ≡ most_pending
-      → Opened rows p h k level pushed e' p' (record { pending = n; pile = height; records = h.records; marks = h.marks })
-  opened k e' n items named entries_long = record {
-    items = items;
-    named = named;
-    entries_long = entries_long;
-    pile = pile;
-    records = refl;
-    marks = refl;
-  }
+-- what a machine's pending items are, by its array and how many of it are pending
+pending_are :
+    (rows : List Row) (s' : Machine) (k : List Item) (e' : List ℕ) (n : ℕ) → s'.pending.items ≡ e' → s'.pending.len ≡ n → items_of rows e' n ≡ k
+    → Entries rows e' n → length e' ≡ most_pending → (items_of rows s'.pending.items s'.pending.len ≡ k) × Entries rows s'.pending.items s'.pending.len
+    × (length s'.pending.items ≡ most_pending)
+pending_are rows s' k e' n ee en items named long = (
+  ap₂ (λ (x : List ℕ) (m : ℕ). items_of rows x m) ee en ∙ items,
+  subst₂ (λ (x : List ℕ) (m : ℕ). Entries rows x m) (sym ee) (sym en) named,
+  ap length ee ∙ long,
+)
+
+module _ (rows : List Row) (s : Machine) (long : length s.pending.items ≡ most_pending) (s' : Machine) where
+  abbrev e : List ℕ
+  e = s.pending.items
+
+  abbrev n : ℕ
+  n = s.pending.len
+
+  abbrev Pending : List Item → Type 0
+  Pending k =
+      (items_of rows s'.pending.items s'.pending.len ≡ k) × Entries rows s'.pending.items s'.pending.len × (length s'.pending.items ≡ most_pending)
 
   -- a close in the place of the statement, and a statement on top of it
   pub opened_branch :
-      (taken : ℕ) → Ready rows e p h 1 → Entry rows (taken + 1)
-      → Opened rows p h (statement (stmt_at rows taken) ∷ close ∷ items_of rows e (h.pending - 1)) level pushed
-      (set (set e (h.pending - 1) 0) h.pending (taken + 1)) p'
-      (record { pending = h.pending + 1; pile = height; records = h.records; marks = h.marks })
-  opened_branch taken ready entry =
-      let some : 0 < h.pending = ready.some in
-      let few : h.pending + 1 ≤ most_pending = ready.few in
-      let m : ℕ = h.pending - 1 in
-      let back : m + 1 ≡ h.pending = omega arith in
+      (taken : ℕ) → Ready rows s 1 → Entry rows (taken + 1) → s'.pending.items ≡ set (set e (n - 1) 0) n (taken + 1) → s'.pending.len ≡ n + 1
+      → Pending (statement (stmt_at rows taken) ∷ close ∷ items_of rows e (n - 1))
+  opened_branch taken ready entry ee en =
+      let m : ℕ = n - 1 in
+      let some : 0 < n = ready.some in
+      let few : n + 1 ≤ most_pending = ready.few in
+      let back : m + 1 ≡ n = omega arith in
       let named : Entries rows e m = entries_rest rows e m (subst (Entries rows e) (sym back) ready.named) in
-      subst
-      (λ (q : ℕ). Opened rows p h (statement (stmt_at rows taken) ∷ close ∷ items_of rows e m) level pushed (set (set e m 0) q (taken + 1)) p'
-      (record { pending = q + 1; pile = height; records = h.records; marks = h.marks }))
-      back
-      (opened _ _ (m + 1 + 1) (two_items rows e m ready.entries_long (omega arith) named taken (omega arith))
-      (two_named rows e m ready.entries_long (omega arith) named taken (omega arith) entry)
-      (two_long rows e m ready.entries_long (omega arith) named taken))
+      pending_are rows s' _ (set (set e m 0) (m + 1) (taken + 1)) (m + 1 + 1)
+      (ee ∙ ap (λ (q : ℕ). set (set e m 0) q (taken + 1)) (sym back)) (omega arith)
+      (two_items rows e m long (omega arith) named taken (omega arith)) (two_named rows e m long (omega arith) named taken (omega arith) entry)
+      (two_long rows e m long (omega arith) named taken)
 
   -- a close in the place of the statement
   pub opened_leave :
-      Ready rows e p h 0
-      → Opened rows p h (close ∷ items_of rows e (h.pending - 1)) level pushed (set e (h.pending - 1) 0) p'
-      (record { pending = h.pending; pile = height; records = h.records; marks = h.marks })
-  opened_leave ready =
-      let some : 0 < h.pending = ready.some in
-      let few : h.pending + 0 ≤ most_pending = ready.few in
-      let m : ℕ = h.pending - 1 in
-      let back : m + 1 ≡ h.pending = omega arith in
+      Ready rows s 0 → s'.pending.items ≡ set e (n - 1) 0 → s'.pending.len ≡ n → Pending (close ∷ items_of rows e (n - 1))
+  opened_leave ready ee en =
+      let m : ℕ = n - 1 in
+      let some : 0 < n = ready.some in
+      let few : n + 0 ≤ most_pending = ready.few in
+      let back : m + 1 ≡ n = omega arith in
       let named : Entries rows e m = entries_rest rows e m (subst (Entries rows e) (sym back) ready.named) in
-      subst
-      (λ (q : ℕ). Opened rows p h (close ∷ items_of rows e m) level pushed (set e m 0) p'
-      (record { pending = q; pile = height; records = h.records; marks = h.marks }))
-      back
-      (opened _ _ (m + 1) (close_items rows e m ready.entries_long (omega arith) named)
-      (close_named rows e m ready.entries_long (omega arith) named) (length-set e m 0 ∙ ready.entries_long))
+      pending_are rows s' _ (set e m 0) (m + 1) ee (omega arith) (close_items rows e m long (omega arith) named)
+      (close_named rows e m long (omega arith) named) (length-set e m 0 ∙ long)
 
   -- a close and a statement on top of the loop, which stays
   pub opened_turn :
-      (body : ℕ) → Ready rows e p h 2 → Entry rows (body + 1)
-      → Opened rows p h (statement (stmt_at rows body) ∷ close ∷ items_of rows e h.pending) level pushed
-      (set (set e h.pending 0) (h.pending + 1) (body + 1)) p'
-      (record { pending = h.pending + 2; pile = height; records = h.records; marks = h.marks })
-  opened_turn body ready entry =
-      let few : h.pending + 2 ≤ most_pending = ready.few in
-      let two : h.pending + 1 + 1 ≡ h.pending + 2 = omega arith in
-      subst
-      (λ (q : ℕ). Opened rows p h (statement (stmt_at rows body) ∷ close ∷ items_of rows e h.pending) level pushed
-      (set (set e h.pending 0) (h.pending + 1) (body + 1)) p' (record { pending = q; pile = height; records = h.records; marks = h.marks }))
-      two
-      (opened _ _ (h.pending + 1 + 1) (two_items rows e h.pending ready.entries_long (omega arith) ready.named body (omega arith))
-      (two_named rows e h.pending ready.entries_long (omega arith) ready.named body (omega arith) entry)
-      (two_long rows e h.pending ready.entries_long (omega arith) ready.named body))
+      (body : ℕ) → Ready rows s 2 → Entry rows (body + 1) → s'.pending.items ≡ set (set e n 0) (n + 1) (body + 1) → s'.pending.len ≡ n + 1 + 1
+      → Pending (statement (stmt_at rows body) ∷ close ∷ items_of rows e n)
+  opened_turn body ready entry ee en =
+      let few : n + 2 ≤ most_pending = ready.few in
+      pending_are rows s' _ (set (set e n 0) (n + 1) (body + 1)) (n + 1 + 1) ee en
+      (two_items rows e n long (omega arith) ready.named body (omega arith)) (two_named rows e n long (omega arith) ready.named body (omega arith) entry)
+      (two_long rows e n long (omega arith) ready.named body)
 
 -- ---- an expression that was evaluated
 
@@ -314,32 +307,6 @@ module _ (w : List ℕ) (marks : ℕ) (x : Expr) (v : Valued) (evaluated : v ≡
 
   pub found_fails : {A : Type 0} → v.value ≡ 0 → holds w x ≡ true → A
   found_fails same holds' = absurd (true≢false (sym holds' ∙ test_fails w x (sym value_found ∙ same)))
-
-  -- the marks after an assignment to a variable of the table
-  pub marks_found :
-      (p height m : ℕ) (bit : Bool) → p < width → bit ≡ guards v.level height → m ≡ put (p % width) bit marks
-      → m ≡ put p (guards (level marks x) height) marks
-  marks_found p height m bit small eb em =
-      em ∙ ap₂ (λ (i : ℕ) (b : Bool). put i b marks) (mod-eq_of_lt small) (eb ∙ ap (λ (l : ℕ). guards l height) level_found)
-
-  -- whether an output of it is denied
-  pub denied_found :
-      (channel height : ℕ) (b d : Bool) → d ≡ denies channel v.level height → d ≡ b
-      → denies channel (level marks x) height ≡ b
-  denied_found channel height b d e known =
-      ap (λ (l : ℕ). denies channel l height) (sym level_found) ∙ sym e ∙ known
-
--- with room for more entries there is room for fewer
-pub ready_less : (rows : List Row) (e p : List ℕ) (h : Held) (more fewer : ℕ) → fewer ≤ more → Ready rows e p h more → Ready rows e p h fewer
-ready_less rows e p h more fewer le ready = record {
-  sound = ready.sound;
-  entries_long = ready.entries_long;
-  pile_long = ready.pile_long;
-  low = ready.low;
-  some = ready.some;
-  few = omega (arith, ready.few);
-  named = ready.named;
-}
 
 pub records_none : (trace : List ℕ) → records_of trace 0 ≡ []
 unfolding records_of

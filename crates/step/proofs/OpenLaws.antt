@@ -1,16 +1,19 @@
 -- What the contract of a step leaves open.
-use Prim.Native.Nat.{ℕ, ◌+◌}
+use Prim.Native.Nat.{ℕ, ◌+◌, ◌≤◌}
 use native.Mathlib.Omega.{arith}
 use mathlib.Core.List.{List}
 use mathlib.Core.Path.{◌≡◌, refl, sym, ap, ap₂, ◌∙◌}
+use mathlib.Core.HLevel.{is_prop→PathP}
 use lib.ListN.{length}
 use Rattle.rules.specs.declared.Row.{Row}
 use Rattle.rules.specs.Running.{Record, State, Attempt, finished, denied, roomless, taken}
 use Rattle.rules.specs.Answers.{trace_after}
-use Rattle.step.specs.declared.Held.{Held}
-use Rattle.step.specs.declared.Turn.TheVariants.{Went, Stopped, NoRoom}
-use Rattle.step.specs.Denoted.{records_of, Arrays, state_of}
-use Rattle.step.specs.Turns.{Goes}
+use Rattle.rules.specs.Limits.{most_nesting}
+use Rattle.rules.specs.Bounds.{most_pending}
+use Rattle.std.proofs.Math.Bridge.{le_prop}
+use Rattle.step.specs.declared.Machine.{Machine}
+use Rattle.step.specs.Denoted.{records_of, Held, Arrays, state_of}
+use Rattle.step.specs.Turns.{Went, Stopped, NoRoom, Goes}
 use Rattle.step.specs.Open.{SameTurn, TurnIsDecided}
 use Rattle.step.proofs.ArrayLaws.{items_length, sets_length, records_length, trace_law}
 
@@ -97,4 +100,24 @@ turn_is_decided rows before h a b (NoRoom row) (NoRoom row') x y = record {
   state_same = λ steps. x.same steps ∙ sym (y.same steps);
   words_same = ap (λ (σ : State). σ.memory) (x.same 0 ∙ sym (y.same 0));
   trace_same = x.trace ∙ sym y.trace;
+}
+
+-- two machines with the same fields
+pub machine_unique :
+    (a b : Machine) → a.words ≡ b.words → a.marks ≡ b.marks → a.pending.items ≡ b.pending.items → a.pending.len ≡ b.pending.len
+    → a.pile.items ≡ b.pile.items → a.pile.len ≡ b.pile.len → a.records ≡ b.records → a ≡ b
+machine_unique a b words marks entries pending sets pile records = λ i. record {
+  words = words i;
+  marks = marks i;
+  pending = record {
+    items = entries i;
+    len = pending i;
+    within = is_prop→PathP (λ i. pending i ≤ most_pending) (λ i. le_prop) a.pending.within b.pending.within i;
+  };
+  pile = record {
+    items = sets i;
+    len = pile i;
+    within = is_prop→PathP (λ i. pile i ≤ most_nesting) (λ i. le_prop) a.pile.within b.pile.within i;
+  };
+  records = records i;
 }

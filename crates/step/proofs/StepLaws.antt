@@ -24,8 +24,8 @@ use Rattle.rules.proofs.RunLaws.{attempt_sequence, attempt_skip, attempt_assign,
 use Rattle.rules.proofs.BoundLaws.{bounds_kept, need_pos}
 use lib.Pow.{pow_pos}
 use lib.Seq.{get_or-set_same, get_or-set_other}
-use Rattle.step.specs.declared.Held.{Held}
-use Rattle.step.specs.Denoted.{item_of, items_of, sets_of, records_of, log_of, arrays, Entry, Entries, Holds}
+use Rattle.step.specs.declared.Machine.{Machine}
+use Rattle.step.specs.Denoted.{item_of, items_of, sets_of, records_of, log_of, Held, arrays, arrays_of, held_of, Entry, Entries, Holds}
 use Rattle.step.specs.Turns.{Kept, Says, Goes, Opened, Apart, Found}
 use Rattle.rules.proofs.AnswerLaws.{room_law}
 use Rattle.step.proofs.ArrayLaws.{item_close, item_statement, item_row, items_pop, items_push, entries_push, entries_rest, sets_pop, sets_none, sets_length, items_length, records_push, records_length, kept_push, kept_same}
@@ -41,20 +41,6 @@ pub entry_of : (rows : List Row) (row : ℕ) → row < length rows → is_statem
 entry_of rows row within sort some =
     let back : row + 1 - 1 ≡ row = omega arith in
     (omega arith, subst (λ (i : ℕ). is_statement (row_at rows i).kind ≡ true) (sym back) sort)
-
-pub entry_close : (rows : List Row) → Entry rows 0
-entry_close rows some = absurd (some refl)
-
-pub apart_none : (rows : List Row) (e : List ℕ) (n : ℕ) → 0 < n → Entries rows e n → length e ≡ most_pending → Apart rows e n e n
-apart_none rows e n some named long = record {
-  some = some;
-  higher = omega arith;
-  same = λ terms m l p g. refl;
-  bounds = λ l p f. f;
-  named = named;
-  entries_long = long;
-  kept = λ i h. refl;
-}
 
 pub apart_then : (rows : List Row) (e e₁ e₂ : List ℕ) (n n₁ n₂ : ℕ) → Apart rows e n e₁ n₁ → Apart rows e₁ n₁ e₂ n₂ → Apart rows e n e₂ n₂
 apart_then rows e e₁ e₂ n n₁ n₂ f g = record {
@@ -271,50 +257,6 @@ module _ (rows : List Row) (w e p t : List ℕ) (h : Held) (at : Holds rows (arr
       (bounds_kept.assign_kept {m = w} {g = G 0} (next_bounds (assign v x) next stands)) e p t _ refl em refl (λ s. refl)
       (length-set w v (value w x) ∙ at.words_long) at.entries_long at.pile_long named_rest (kept_same t h.records) (omega arith) at.written
 
-  -- an if or while, from what was opened
-  opens :
-      (s : Stmt) → get_or e n 0 ≢ 0 → stmt_at rows (get_or e n 0 - 1) ≡ s → (x : Expr) (k : List Item) (c : ℕ) (e' p' : List ℕ) (h' : Held)
-      → Opened rows p h k (level h.marks x) c e' p' h'
-      → ((m : ℕ)
-      → attempted T (state (statement s ∷ K) w h.marks P (G m))
-      ≡ taken (state k w h.marks (push (provisional (level h.marks x) || context P) c P) (counted (G m))))
-      → Bounds k h.marks (push (provisional (level h.marks x) || context P) c P) → Goes rows (arrays w e p t) h (arrays w e' p' t) h'
-  opens s next stands x k c e' p' h' given step bounds =
-      goes (statement s) (is_next s next stands) k w h.marks (push (provisional (level h.marks x) || context P) c P) (λ m. counted (G m)) step
-      bounds e' p' t h' given.items given.marks given.pile.sets (λ m. ap (λ (r : ℕ). log_of t r (m + 1)) given.records) at.words_long
-      given.entries_long given.pile.long given.named (kept_same t h'.records) (omega (arith, given.records)) (omega (arith, given.records, at.written))
-
-  pub then_law :
-      (x : Expr) (s s' : Stmt) → get_or e n 0 ≢ 0 → stmt_at rows (get_or e n 0 - 1) ≡ if x s s' → holds w x ≡ true → (e' p' : List ℕ) (h' : Held)
-      → Opened rows p h (statement s ∷ close ∷ K) (level h.marks x) (may_assign s') e' p' h'
-      → Goes rows (arrays w e p t) h (arrays w e' p' t) h'
-  then_law x s s' next stands hold e' p' h' given =
-      opens (if x s s') next stands x (statement s ∷ close ∷ K) (may_assign s') e' p' h' given
-      (λ m. attempt_then T K w h.marks P (G m) x s s' hold) (bounds_kept.then_kept {m = w} {g = G 0} (next_bounds (if x s s') next stands))
-
-  pub else_law :
-      (x : Expr) (s s' : Stmt) → get_or e n 0 ≢ 0 → stmt_at rows (get_or e n 0 - 1) ≡ if x s s' → holds w x ≡ false → (e' p' : List ℕ) (h' : Held)
-      → Opened rows p h (statement s' ∷ close ∷ K) (level h.marks x) (may_assign s) e' p' h'
-      → Goes rows (arrays w e p t) h (arrays w e' p' t) h'
-  else_law x s s' next stands hold e' p' h' given =
-      opens (if x s s') next stands x (statement s' ∷ close ∷ K) (may_assign s) e' p' h' given
-      (λ m. attempt_else T K w h.marks P (G m) x s s' hold) (bounds_kept.else_kept {m = w} {g = G 0} (next_bounds (if x s s') next stands))
-
-  pub turn_law :
-      (x : Expr) (s : Stmt) → get_or e n 0 ≢ 0 → stmt_at rows (get_or e n 0 - 1) ≡ while x s → holds w x ≡ true → (e' p' : List ℕ) (h' : Held)
-      → Opened rows p h (statement s ∷ close ∷ statement (while x s) ∷ K) (level h.marks x) none e' p' h'
-      → Goes rows (arrays w e p t) h (arrays w e' p' t) h'
-  turn_law x s next stands hold e' p' h' given =
-      opens (while x s) next stands x (statement s ∷ close ∷ statement (while x s) ∷ K) none e' p' h' given
-      (λ m. attempt_turn T K w h.marks P (G m) x s hold) (bounds_kept.turn_kept {m = w} {g = G 0} (next_bounds (while x s) next stands))
-
-  pub leave_law :
-      (x : Expr) (s : Stmt) → get_or e n 0 ≢ 0 → stmt_at rows (get_or e n 0 - 1) ≡ while x s → holds w x ≡ false → (e' p' : List ℕ) (h' : Held)
-      → Opened rows p h (close ∷ K) (level h.marks x) (may_assign s) e' p' h' → Goes rows (arrays w e p t) h (arrays w e' p' t) h'
-  leave_law x s next stands hold e' p' h' given =
-      opens (while x s) next stands x (close ∷ K) (may_assign s) e' p' h' given (λ m. attempt_leave T K w h.marks P (G m) x s hold)
-      (bounds_kept.leave_kept {m = w} {g = G 0} (next_bounds (while x s) next stands))
-
   -- an output
   module _ (channel : ℕ) (x : Expr) (row : ℕ) (next : get_or e n 0 ≢ 0) (stands : stmt_at rows (get_or e n 0 - 1) ≡ output channel x row) where
     full_room : length t ≤ h.records * 2 + 1 → ltb (length (records_of t h.records)) T.room ≡ false
@@ -350,3 +292,75 @@ module _ (rows : List Row) (w e p t : List ℕ) (h : Held) (at : Holds rows (arr
         (λ s i. record { records = records_push t h.records channel (value w x) room i; steps = s + 1 })
         at.words_long at.entries_long at.pile_long named_rest (kept_push t h.records channel (value w x)) (omega arith)
         (omega (arith, length-set (set t (h.records * 2) channel) (h.records * 2 + 1) (value w x), length-set t (h.records * 2) channel))
+
+-- ---- an if or while, from what the machine opened
+
+module _
+    (rows : List Row) (s : Machine) (t : List ℕ) (at : Holds rows (arrays_of s t) (held_of s)) (n : ℕ) (top : s.pending.len ≡ n + 1)
+    (next : get_or s.pending.items n 0 ≢ 0) (s' : Machine)
+  where
+    abbrev w : List ℕ
+    w = s.words
+
+    abbrev below : List Item
+    below = items_of rows s.pending.items n
+
+    abbrev sets : List ℕ
+    sets = sets_of s.pile.items s.pile.len
+
+    abbrev Stands : Stmt → Type 0
+    Stands stmt = stmt_at rows (get_or s.pending.items n 0 - 1) ≡ stmt
+
+    abbrev Went : Type 0
+    Went = Goes rows (arrays_of s t) (held_of s) (arrays_of s' t) (held_of s')
+
+    abbrev front_of : (stmt : Stmt) → Stands stmt → Bounds (statement stmt ∷ below) s.marks sets
+    front_of stmt stands = next_bounds rows w s.pending.items s.pile.items t (held_of s) at n top stmt next stands
+
+    opens :
+        (stmt : Stmt) → Stands stmt → (x : Expr) (k : List Item) (c : ℕ) → Opened rows s k (level s.marks x) c s'
+        → ((m : ℕ)
+        → attempted (terms_of (length t)) (state (statement stmt ∷ below) w s.marks sets (log_of t s.records m))
+        ≡ taken (state k w s.marks (push (provisional (level s.marks x) || context sets) c sets) (counted (log_of t s.records m))))
+        → Bounds k s.marks (push (provisional (level s.marks x) || context sets) c sets) → Went
+    opens stmt stands x k c given step bounds =
+        let records : s'.records ≡ s.records = given.records in
+        subst (λ (w' : List ℕ). Goes rows (arrays_of s t) (held_of s) (arrays w' s'.pending.items s'.pile.items t) (held_of s'))
+        (sym given.words)
+        (goes rows w s.pending.items s.pile.items t (held_of s) at n top (statement stmt)
+        (is_next rows w s.pending.items s.pile.items t (held_of s) at n top stmt next stands) k w s.marks
+        (push (provisional (level s.marks x) || context sets) c sets) (λ m. counted (log_of t s.records m)) step bounds s'.pending.items s'.pile.items
+        t (held_of s') given.items given.marks given.sets (λ m. ap (λ (r : ℕ). log_of t r (m + 1)) given.records)
+        at.words_long given.entries_long given.pile_long given.named (kept_same t s'.records) (omega arith) (omega (arith, at.written)))
+
+    pub then_law :
+        (x : Expr) (s₁ s₂ : Stmt) → Stands (if x s₁ s₂) → holds w x ≡ true
+        → Opened rows s (statement s₁ ∷ close ∷ below) (level s.marks x) (may_assign s₂) s' → Went
+    then_law x s₁ s₂ stands hold given =
+        opens (if x s₁ s₂) stands x (statement s₁ ∷ close ∷ below) (may_assign s₂) given
+        (λ m. attempt_then (terms_of (length t)) below w s.marks sets (log_of t s.records m) x s₁ s₂ hold)
+        (bounds_kept.then_kept {m = w} {g = log_of t s.records 0} (front_of (if x s₁ s₂) stands))
+
+    pub else_law :
+        (x : Expr) (s₁ s₂ : Stmt) → Stands (if x s₁ s₂) → holds w x ≡ false
+        → Opened rows s (statement s₂ ∷ close ∷ below) (level s.marks x) (may_assign s₁) s' → Went
+    else_law x s₁ s₂ stands hold given =
+        opens (if x s₁ s₂) stands x (statement s₂ ∷ close ∷ below) (may_assign s₁) given
+        (λ m. attempt_else (terms_of (length t)) below w s.marks sets (log_of t s.records m) x s₁ s₂ hold)
+        (bounds_kept.else_kept {m = w} {g = log_of t s.records 0} (front_of (if x s₁ s₂) stands))
+
+    pub turn_law :
+        (x : Expr) (s₁ : Stmt) → Stands (while x s₁) → holds w x ≡ true
+        → Opened rows s (statement s₁ ∷ close ∷ statement (while x s₁) ∷ below) (level s.marks x) none s' → Went
+    turn_law x s₁ stands hold given =
+        opens (while x s₁) stands x (statement s₁ ∷ close ∷ statement (while x s₁) ∷ below) none given
+        (λ m. attempt_turn (terms_of (length t)) below w s.marks sets (log_of t s.records m) x s₁ hold)
+        (bounds_kept.turn_kept {m = w} {g = log_of t s.records 0} (front_of (while x s₁) stands))
+
+    pub leave_law :
+        (x : Expr) (s₁ : Stmt) → Stands (while x s₁) → holds w x ≡ false
+        → Opened rows s (close ∷ below) (level s.marks x) (may_assign s₁) s' → Went
+    leave_law x s₁ stands hold given =
+        opens (while x s₁) stands x (close ∷ below) (may_assign s₁) given
+        (λ m. attempt_leave (terms_of (length t)) below w s.marks sets (log_of t s.records m) x s₁ hold)
+        (bounds_kept.leave_kept {m = w} {g = log_of t s.records 0} (front_of (while x s₁) stands))

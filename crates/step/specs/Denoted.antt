@@ -7,7 +7,7 @@ use Rattle.rules.specs.Trees.{stmt_at}
 use Rattle.rules.specs.Running.{Item, statement, close, Record, Log, State, state}
 use Rattle.rules.specs.Bounds.{most_pending, Bounds}
 use Rattle.rules.specs.Sound.{Sound}
-use Rattle.step.specs.declared.Held.{Held}
+use Rattle.step.specs.declared.Machine.{Machine}
 
 -- an entry of the pending array: 0 is a close, and any other number a statement's row and 1
 unfoldable pub item_of : List Row → ℕ → Item
@@ -32,6 +32,13 @@ records_of trace (suc n) = records_of trace n ++ (record { channel = get_or trac
 abbrev pub log_of : List ℕ → ℕ → ℕ → Log
 log_of trace records steps = record { records = records_of trace records; steps = steps }
 
+-- How much of each array the state takes, and its marks.
+pub record Held : Type 0 where
+  pub pending : ℕ
+  pub pile : ℕ
+  pub records : ℕ
+  pub marks : ℕ
+
 -- The arrays in which a run's state stands: memory's words, the pending entries, the pile's sets, the trace.
 pub record Arrays : Type 0 where
   pub words : List ℕ
@@ -41,6 +48,13 @@ pub record Arrays : Type 0 where
 
 abbrev pub arrays : List ℕ → List ℕ → List ℕ → List ℕ → Arrays
 arrays words entries pile trace = record { words = words; entries = entries; pile = pile; trace = trace }
+
+-- the arrays of a machine, with the trace that is lent beside it, and how much of each its state takes
+abbrev pub arrays_of : Machine → List ℕ → Arrays
+arrays_of s trace = arrays s.words s.pending.items s.pile.items trace
+
+abbrev pub held_of : Machine → Held
+held_of s = record { pending = s.pending.len; pile = s.pile.len; records = s.records; marks = s.marks }
 
 -- the state that the arrays hold, after so many steps
 abbrev pub state_of : List Row → Arrays → Held → ℕ → State

@@ -1,11 +1,8 @@
 -- What the contract of a step leaves open: nothing but what stands in the arrays of entries and of sets beyond the state.
 use Rattle.std.specs.Prelude.{ℕ, ◌+◌, List, ◌≡◌}
 use Rattle.rules.specs.declared.Row.{Row}
-use Rattle.step.specs.declared.Held.{Held}
-use Rattle.step.specs.declared.Turn.{Turn}
-use Rattle.step.specs.declared.Turn.TheVariants.{Went, Stopped, NoRoom}
-use Rattle.step.specs.Denoted.{Arrays, state_of}
-use Rattle.step.specs.Turns.{Turned}
+use Rattle.step.specs.Denoted.{Held, Arrays, state_of}
+use Rattle.step.specs.Turns.{Turn, Went, Stopped, NoRoom, Turned}
 
 -- how much of each array the state takes after a turn, and how many steps it is then
 abbrev pub held_after : Turn → Held → Held

@@ -1,6 +1,7 @@
 -- What a step does to the state that the arrays hold.
-use Rattle.std.specs.Prelude.{ℕ, ◌+◌, ◌-◌, ◌*◌, ◌≤◌, ◌<◌, Bool, true, false, cond, not, ◌||◌, ◌&&◌, eqb, List, ◌∷◌, ◌≡◌, length, get_or, set}
+use Rattle.std.specs.Prelude.{ℕ, ◌+◌, ◌-◌, ◌*◌, ◌≤◌, ◌<◌, Bool, true, false, cond, not, ◌||◌, ◌&&◌, eqb, List, ◌∷◌, ◌≡◌, length, get_or, set, replicate, Result, Ok, Err}
 use Rattle.rules.specs.Limits.{width, most_nesting}
+use Rattle.rules.specs.declared.Ended.{Ended}
 use Rattle.rules.specs.declared.Row.{Row}
 use Rattle.rules.specs.declared.Kind.{Kind}
 use Rattle.rules.specs.Marks.{put, union, provisional}
@@ -11,12 +12,28 @@ use Rattle.rules.specs.Running.{Item, statement, close, Log, Terms, state, conte
 use Rattle.rules.specs.Bounds.{most_pending, Roomy, Bounds}
 use Rattle.rules.specs.Sound.{Sound}
 use Rattle.rules.specs.Answers.{terms_of}
-use Rattle.step.specs.declared.Held.{Held}
-use Rattle.step.specs.declared.Turn.{Turn}
-use Rattle.step.specs.declared.Turn.TheVariants.{Went, Stopped, NoRoom}
-use Rattle.step.specs.Denoted.{items_of, sets_of, Arrays, state_of, Entry, Entries, Holds}
+use Rattle.step.specs.declared.Halt.{Halt}
+use Rattle.step.specs.declared.Machine.{Machine}
+use Rattle.step.specs.Denoted.{items_of, sets_of, Held, Arrays, held_of, state_of, Entry, Entries, Holds}
 
 -- ---- a whole step
+
+-- What comes of a step: the state goes on, or the output at a row is denied, because of these variables, or without room.
+pub data Turn : Type 0 where
+  Went : Held → Turn
+  Stopped : ℕ → ℕ → Turn
+  NoRoom : ℕ → Turn
+
+-- what is said of a step by its result, where so much is held afterwards
+abbrev pub turn_of : {A : Type 0} → Result A Halt → Held → Turn
+turn_of (Ok done) h = Went h
+turn_of (Err (Halt.Stopped row because)) h = Stopped row because
+turn_of (Err (Halt.NoRoom row)) h = NoRoom row
+
+-- how a run ends that halts
+abbrev pub ended_of : Halt → Ended
+ended_of (Halt.Stopped row because) = Ended.Stopped row because
+ended_of (Halt.NoRoom row) = Ended.NoRoom row
 
 -- the words of the trace after the first n records are as they were
 pub record Kept (trace trace' : List ℕ) (records : ℕ) : Type 0 where
@@ -52,6 +69,18 @@ abbrev pub Applied : List Row → Arrays → Held → Arrays → Turn → Type 0
 Applied rows a h a' (Went h') = Goes rows a h a' h'
 Applied rows a h a' (Stopped row because) = (a' ≡ a) × Says rows a h (λ steps. denied row because)
 Applied rows a h a' (NoRoom row) = (a' ≡ a) × Says rows a h (λ steps. roomless row)
+
+-- ---- where a run starts
+
+-- The statement of the row is pending, with this memory and these marks, and nothing else is.
+pub record Starts (memory : List ℕ) (given row : ℕ) (s : Machine) : Type 0 where
+  pub words : s.words ≡ memory
+  pub marks : s.marks ≡ given
+  pub first : s.pending.items ≡ set (replicate most_pending 0) 0 (row + 1)
+  pub one : s.pending.len ≡ 1
+  pub sets : s.pile.items ≡ replicate most_nesting 0
+  pub no_sets : s.pile.len ≡ 0
+  pub no_records : s.records ≡ 0
 
 -- ---- the statement that is next
 
@@ -95,74 +124,74 @@ pub record TakenApart (rows : List Row) (e : List ℕ) (n : ℕ) (e' : List ℕ)
 abbrev pub Statement : List Row → ℕ → Type 0
 Statement rows row = Entry rows (row + 1) × (row < length rows)
 
--- The arrays have room for what a statement opens: a set on the pile, and so many entries more.
-pub record Ready (rows : List Row) (e p : List ℕ) (h : Held) (more : ℕ) : Type 0 where
+-- The state has room for what a statement opens: a set on the pile, and so many entries more.
+pub record Ready (rows : List Row) (s : Machine) (more : ℕ) : Type 0 where
   pub sound : Sound rows
-  pub entries_long : length e ≡ most_pending
-  pub pile_long : length p ≡ most_nesting
-  pub low : h.pile < most_nesting
-  pub some : 0 < h.pending
-  pub few : h.pending + more ≤ most_pending
-  pub named : Entries rows e h.pending
+  pub low : s.pile.len < most_nesting
+  pub some : 0 < s.pending.len
+  pub few : s.pending.len + more ≤ most_pending
+  pub named : Entries rows s.pending.items s.pending.len
 
--- The pile afterwards, and its height: this set is pushed if a test of this level or the context is provisional.
-pub record Pushed (p : List ℕ) (height level pushed : ℕ) (p' : List ℕ) (height' : ℕ) : Type 0 where
-  pub long : length p' ≡ most_nesting
-  pub sets : sets_of p' height' ≡ push (provisional level || context (sets_of p height)) pushed (sets_of p height)
+-- The pile afterwards: this set is pushed if a test of this level or the context is provisional.
+pub record Pushed (s : Machine) (level pushed : ℕ) (s' : Machine) : Type 0 where
+  pub sets :
+      sets_of s'.pile.items s'.pile.len
+      ≡ push (provisional level || context (sets_of s.pile.items s.pile.len)) pushed (sets_of s.pile.items s.pile.len)
+  pub pile_long : length s'.pile.items ≡ most_nesting
+  pub rest : s' ≡ record s { pile = s'.pile }
 
 -- A test of this level was looked at: these items are pending, and this set is pushed if the test or the context is
--- provisional; records and marks are as they were.
-pub record Opened (rows : List Row) (p : List ℕ) (h : Held) (k : List Item) (level pushed : ℕ) (e' p' : List ℕ) (h' : Held) : Type 0 where
-  pub items : items_of rows e' h'.pending ≡ k
-  pub named : Entries rows e' h'.pending
-  pub entries_long : length e' ≡ most_pending
-  pub pile : Pushed p h.pile level pushed p' h'.pile
-  pub records : h'.records ≡ h.records
-  pub marks : h'.marks ≡ h.marks
+-- provisional; words, records and marks are as they were.
+pub record Opened (rows : List Row) (s : Machine) (k : List Item) (level pushed : ℕ) (s' : Machine) : Type 0 where
+  pub items : items_of rows s'.pending.items s'.pending.len ≡ k
+  pub named : Entries rows s'.pending.items s'.pending.len
+  pub entries_long : length s'.pending.items ≡ most_pending
+  pub pile_long : length s'.pile.items ≡ most_nesting
+  pub sets :
+      sets_of s'.pile.items s'.pile.len
+      ≡ push (provisional level || context (sets_of s.pile.items s.pile.len)) pushed (sets_of s.pile.items s.pile.len)
+  pub words : s'.words ≡ s.words
+  pub marks : s'.marks ≡ s.marks
+  pub records : s'.records ≡ s.records
 
-module _ (rows : List Row) (e p : List ℕ) (h : Held) where
+module _ (rows : List Row) (s : Machine) where
   -- what is pending below the item that is next
   abbrev pub below : List Item
-  below = items_of rows e (h.pending - 1)
+  below = items_of rows s.pending.items (s.pending.len - 1)
 
   -- the branch that the test chooses, with the set of the other
   -- 5.8: If makes the branch that the test chooses pending, and a close after it; ..
-  abbrev pub BranchOpened : ℕ → ℕ → ℕ → List ℕ → List ℕ → Held → Type 0
-  BranchOpened level chosen other = Opened rows p h (statement (stmt_at rows chosen) ∷ close ∷ below) level (may_assign (stmt_at rows other))
+  abbrev pub BranchOpened : ℕ → ℕ → ℕ → Machine → Type 0
+  BranchOpened level chosen other = Opened rows s (statement (stmt_at rows chosen) ∷ close ∷ below) level (may_assign (stmt_at rows other))
 
   -- with the empty set, the number 0
   -- 5.9: While makes its body, a close and itself again pending where the test holds; ..
-  abbrev pub LoopTurned : ℕ → ℕ → List ℕ → List ℕ → Held → Type 0
-  LoopTurned level body = Opened rows p h (statement (stmt_at rows body) ∷ close ∷ items_of rows e h.pending) level 0
+  abbrev pub LoopTurned : ℕ → ℕ → Machine → Type 0
+  LoopTurned level body = Opened rows s (statement (stmt_at rows body) ∷ close ∷ items_of rows s.pending.items s.pending.len) level 0
 
   -- with the set of the body
   -- 5.10: While makes a close pending where the test fails; ..
-  abbrev pub LoopLeft : ℕ → ℕ → List ℕ → List ℕ → Held → Type 0
-  LoopLeft level body = Opened rows p h (close ∷ below) level (may_assign (stmt_at rows body))
+  abbrev pub LoopLeft : ℕ → ℕ → Machine → Type 0
+  LoopLeft level body = Opened rows s (close ∷ below) level (may_assign (stmt_at rows body))
 
 -- what the statement of a row needs, that it may be taken as an if, or as a while
-abbrev pub CanBranch : List Row → List ℕ → List ℕ → List ℕ → Held → Row → Type 0
-CanBranch rows w e p h row =
-    Ready rows e p h 1 × (length w ≡ width) × (row.p < length rows) × Statement rows row.q × Statement rows row.r
+abbrev pub CanBranch : List Row → Machine → Row → Type 0
+CanBranch rows s row = Ready rows s 1 × (row.p < length rows) × Statement rows row.q × Statement rows row.r
 
-abbrev pub CanLoop : List Row → List ℕ → List ℕ → List ℕ → Held → Row → Type 0
-CanLoop rows w e p h row = Ready rows e p h 2 × (length w ≡ width) × (row.p < length rows) × Statement rows row.q
+abbrev pub CanLoop : List Row → Machine → Row → Type 0
+CanLoop rows s row = Ready rows s 2 × (row.p < length rows) × Statement rows row.q
 
 -- The branch that the test takes is opened.
-pub record Branched (rows : List Row) (w e p : List ℕ) (h : Held) (row : Row) (e' p' : List ℕ) (h' : Held) : Type 0 where
+pub record Branched (rows : List Row) (s : Machine) (row : Row) (s' : Machine) : Type 0 where
   pub then :
-      holds w (expr_at rows row.p) ≡ true
-      → BranchOpened rows e p h (level h.marks (expr_at rows row.p)) row.q row.r e' p' h'
+      holds s.words (expr_at rows row.p) ≡ true → BranchOpened rows s (level s.marks (expr_at rows row.p)) row.q row.r s'
   pub otherwise :
-      holds w (expr_at rows row.p) ≡ false
-      → BranchOpened rows e p h (level h.marks (expr_at rows row.p)) row.r row.q e' p' h'
+      holds s.words (expr_at rows row.p) ≡ false → BranchOpened rows s (level s.marks (expr_at rows row.p)) row.r row.q s'
 
 -- The loop is turned where its test holds, else left.
-pub record Looped (rows : List Row) (w e p : List ℕ) (h : Held) (row : Row) (e' p' : List ℕ) (h' : Held) : Type 0 where
-  pub turns :
-      holds w (expr_at rows row.p) ≡ true → LoopTurned rows e p h (level h.marks (expr_at rows row.p)) row.q e' p' h'
-  pub leaves :
-      holds w (expr_at rows row.p) ≡ false → LoopLeft rows e p h (level h.marks (expr_at rows row.p)) row.q e' p' h'
+pub record Looped (rows : List Row) (s : Machine) (row : Row) (s' : Machine) : Type 0 where
+  pub turns : holds s.words (expr_at rows row.p) ≡ true → LoopTurned rows s (level s.marks (expr_at rows row.p)) row.q s'
+  pub leaves : holds s.words (expr_at rows row.p) ≡ false → LoopLeft rows s (level s.marks (expr_at rows row.p)) row.q s'
 
 -- ---- a close, an assignment and an output
 
@@ -180,9 +209,16 @@ closed_held p h =
     cond (eqb h.pile 0) (passed h h.marks)
     (record { pending = h.pending - 1; pile = h.pile - 1; records = h.records; marks = union (get_or p (h.pile - 1) 0) h.marks })
 
+-- what is held afterwards, by the state before and after; the arrays that the state has are as they were
+pub record Passed (s s' : Machine) (h' : Held) : Type 0 where
+  pub held : held_of s' ≡ h'
+  pub words : s'.words ≡ s.words
+  pub entries : s'.pending.items ≡ s.pending.items
+  pub sets : s'.pile.items ≡ s.pile.items
+
 -- an assignment's row can be taken
-abbrev pub CanAssign : List Row → List ℕ → Held → Row → Type 0
-CanAssign rows w h row = Sound rows × (length w ≡ width) × (row.q < length rows) × (row.p < width) × (0 < h.pending)
+abbrev pub CanAssign : List Row → Machine → Row → Type 0
+CanAssign rows s row = Sound rows × (row.q < length rows) × (row.p < width) × (0 < s.pending.len)
 
 -- the value, and whether the variable is marked
 abbrev pub assigned_words : List Row → List ℕ → Row → List ℕ
@@ -192,9 +228,8 @@ abbrev pub assigned_held : List Row → Held → Row → Held
 assigned_held rows h row = passed h (put row.p (guards (level h.marks (expr_at rows row.q)) h.pile) h.marks)
 
 -- an output's row can be taken
-abbrev pub CanPutOut : List Row → List ℕ → List ℕ → Held → Row → Type 0
-CanPutOut rows w t h row =
-    Sound rows × (length w ≡ width) × (row.q < length rows) × (0 < h.pending) × (h.records * 2 ≤ length t)
+abbrev pub CanPutOut : List Row → Machine → List ℕ → Row → Type 0
+CanPutOut rows s t row = Sound rows × (row.q < length rows) × (0 < s.pending.len) × (s.records * 2 ≤ length t)
 
 -- whether the monitor denies an output on this channel, of this level, under a pile of this height
 abbrev pub denies : ℕ → ℕ → ℕ → Bool

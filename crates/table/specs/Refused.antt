@@ -1,6 +1,6 @@
 -- Each of the refusals 2 to 5 at the lowest row to which it applies, as `judge_rows` of the rules has it.
 use Rattle.std.specs.Prelude.{List, length}
-use Rattle.rules.specs.declared.Judged.{Judged}
+use Rattle.rules.specs.Judged.{Judged}
 use Rattle.rules.specs.declared.Row.{Row}
 use Rattle.rules.specs.Rows.{row_at}
 use Rattle.rules.specs.Judging.{wrong_words, wrong_children, children, wrong_parents, too_deep, lowest}

@@ -71,6 +71,7 @@ const ROLES: [Roles; 10] = [
 
 // What each of the three words is in a row of the kind: the table is read at the kind's place. A place that is written out
 // lets the compiler read the table; one that is computed has it put together for every row.
+#[tactic(auto, unfolding(rules::specs::Rows::roles_of))]
 pub fn roles_of(kind: Kind) -> Roles
     ensures { result ≡ roles_of kind }
 {
@@ -90,21 +91,20 @@ pub fn roles_of(kind: Kind) -> Roles
 }
 
 // Whether a row of the kind is a statement.
+#[tactic(auto, unfolding(rules::specs::Rows::is_statement))]
 pub fn is_statement(kind: Kind) -> bool
     ensures { result ≡ is_statement kind }
 {
-    match kind {
-        Kind::Skip | Kind::Assign | Kind::Sequence | Kind::If | Kind::While | Kind::Output => true,
-        _ => false,
-    }
+    matches!(
+        kind,
+        Kind::Skip | Kind::Assign | Kind::Sequence | Kind::If | Kind::While | Kind::Output
+    )
 }
 
 // Whether a row of the kind is an expression.
+#[tactic(auto, unfolding(rules::specs::Rows::is_expression))]
 pub fn is_expression(kind: Kind) -> bool
     ensures { result ≡ is_expression kind }
 {
-    match kind {
-        Kind::Constant | Kind::Variable | Kind::Binary => true,
-        _ => false,
-    }
+    matches!(kind, Kind::Constant | Kind::Variable | Kind::Binary)
 }

@@ -2,14 +2,12 @@
 // standard error says so; then no report is begun, or no more of it is written.
 #![tactic(auto)]
 
-mod streams;
-
-use report::Wrote;
 use std::io;
 use std::io::Write;
-use streams::Moved;
+use streams::Uninterrupted;
 
 // One byte more than a job may have, so that a longer one is seen to be too long.
+// Stays: job, report and reason lie in arrays, since the project uses fixed memory and no heap.
 const TEXT_BYTES: usize = job::MOST_BYTES + 1;
 
 // Room for the reason of a failed call.
@@ -40,20 +38,20 @@ fn answer(rt: &HostRuntime, text: &[u8]) {
     let mut out = [0u8; desk::REPORT_BYTES];
     let wrote = desk::answer_job(text, &mut out);
     // such a buffer has room for every report
-    let Wrote::Bytes(count) = wrote else {
+    let Ok(count) = wrote else {
         return;
     };
-    let put = streams::write_all(&mut rt.stdout(), &out[..count]);
-    if let Moved::Failed(why) = put {
+    let mut to = Uninterrupted(rt.stdout());
+    if let Err(why) = streams::write_all(&mut to, &out[..count]) {
         tell(rt, "watch: cannot write the report", why);
     }
 }
 
 fn main(rt: HostRuntime) {
     let mut text = [0u8; TEXT_BYTES];
-    let got = streams::read_all(&mut rt.stdin(), &mut text);
-    match got {
-        Moved::Bytes(count) => answer(&rt, &text[..count]),
-        Moved::Failed(why) => tell(&rt, "watch: cannot read the job", why),
+    let mut from = Uninterrupted(rt.stdin());
+    match streams::read_all(&mut from, &mut text) {
+        Ok(count) => answer(&rt, &text[..count]),
+        Err(why) => tell(&rt, "watch: cannot read the job", why),
     }
 }

@@ -1,32 +1,57 @@
 -- `job::after_key` meets its contract. Assumes nothing.
-use mathlib.Core.Path.{refl, ◌∙◌}
-use Rattle.lines.proofs.LineLaws.{key_again, key_differs, key_short, key_end}
+use Prim.Native.Nat.{ℕ, ◌+◌, ◌-◌, ◌<◌}
+use native.Mathlib.Omega.{arith}
+use mathlib.Core.Bool.{Bool, true, false, cond, ◌&&◌}
+use mathlib.Core.List.{List, [], ◌∷◌}
+use mathlib.Core.Path.{◌≡◌, refl, sym, ap, ap₂, ◌∙◌}
+use lib.Dec.{eqb}
+use lib.ListN.{length, drop, drop_of_length-le, length-drop}
+use lib.Seq.{take_all}
+use Rattle.std.proofs.lemmas.List.{drop-drop}
+use Rattle.std.specs.List.{starts_with}
+use Rattle.std.specs.Bool.{then_some}
+use Rattle.lines.specs.Lines.{absent, after, after_key}
+use Rattle.job.specs.Read.{key_said}
 use Rattle.job.proofs.after_key.Goals as goal
 
-pub loop-j-init : goal.loop-j-init
-loop-j-init c = refl
+-- a key that is not empty does not stand past the end
+none_past : (key text : List ℕ) (at : ℕ) → 0 < length key → length text < at → absent ≡ after_key key (drop at text)
+unfolding after_key
+none_past [] text at some past = absurd (omega arith)
+none_past (byte ∷ key) text at some past = sym (ap (after_key (byte ∷ key)) (drop_of_length-le text (omega arith)))
 
-pub returns-then-text-i : goal.returns-then-text-i
-returns-then-text-i c =
-    let args = c.args in
-    key_short args.key.now args.text.now c.loop-j.j c.loop-j.i c.loop-j-test.true c.if-text-i.true
-    ∙ c.loop-j.invariant
+-- a key is found by whether the text starts with it
+starts_key : (key text : List ℕ) → cond (starts_with eqb text key) (after (drop (length key) text)) absent ≡ after_key key text
+unfolding after_key
+starts_key [] text = refl
+starts_key (byte ∷ key) [] = refl
+starts_key (byte ∷ key) (b ∷ text) = by (eqb byte b) (starts_key key text)
+  where
+    by : (same : Bool) → cond (starts_with eqb text key) (after (drop (length key) text)) absent ≡ after_key key text
+        → cond (same && starts_with eqb text key) (after (drop (length key) text)) absent ≡ cond same (after_key key text) absent
+    by true e = e
+    by false e = refl
 
-pub returns-then-key-j : goal.returns-then-key-j
-returns-then-key-j c =
-    let args = c.args in
-    key_differs args.key.now args.text.now c.loop-j.j c.loop-j.i c.loop-j-test.true
-    c.if-text-i.false c.if-key-j.true
-    ∙ c.loop-j.invariant
+then_said : (text : List ℕ) (b : Bool) (next : ℕ) → key_said text (then_some b next) ≡ cond b (after (drop next text)) absent
+then_said text true next = refl
+then_said text false next = refl
 
-pub loop-j-preserved : goal.loop-j-preserved
-loop-j-preserved c =
-    let args = c.args in
-    key_again args.key.now args.text.now c.loop-j.j c.loop-j.i c.loop-j-test.true
-    c.if-text-i.false c.if-key-j.false
-    ∙ c.loop-j.invariant
+pub returns-in_err-get : goal.returns-in_err-get
+returns-in_err-get c =
+    let none = c.in_err-get.ensures.lookup.0 in
+    let past : length c.args.text.now < c.args.at = omega arith in
+    rw c.from_residual.ensures (none_past c.args.key.now c.args.text.now c.args.at c.requires past)
 
 pub returns : goal.returns
 returns c =
-    let args = c.args in
-    key_end args.key.now args.text.now c.loop-j.j c.loop-j.i c.loop-j-test.false ∙ c.loop-j.invariant
+    let text = c.args.text.now in
+    let key = c.args.key.now in
+    let part = c.in_ok-get.ensures.lookup.0 in
+    let front : c.in_ok-get.field-0.now ≡ drop c.args.at text =
+    part.2 ∙ take_all (length text - c.args.at) (drop c.args.at text) (omega (arith, length-drop c.args.at text)) in
+    ap (key_said text) c.then_some.ensures
+    ∙ then_said text c.starts_with.result (c.args.at + length key)
+    ∙ ap₂ (λ (b : Bool) (rest : List ℕ). cond b (after rest) absent)
+    (c.starts_with.ensures.value ∙ ap (λ (rest : List ℕ). starts_with eqb rest key) front)
+    (sym (drop-drop (length key) c.args.at text))
+    ∙ starts_key key (drop c.args.at text)

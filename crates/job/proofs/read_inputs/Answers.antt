@@ -1,35 +1,36 @@
 -- `job::read_inputs` meets its contract. Assumes nothing.
-use mathlib.Core.Path.{sym, ap, ◌∙◌}
-use lib.ListN.{take, drop}
+use Prim.Native.Nat.{◌+◌}
+use native.Mathlib.Omega.{arith}
+use mathlib.Core.List.{[], ◌∷◌}
+use mathlib.Core.Path.{refl, ◌∙◌}
+use lib.ListN.{drop, replicate}
 use Rattle.rules.specs.Limits.{width}
-use Rattle.job.specs.Jobs.{inputs_of, read_inputs}
-use Rattle.job.specs.Read.{lines_said, reading}
-use Rattle.job.proofs.JobLaws.{many_broken, many_told, filled_front}
+use Rattle.job.specs.Jobs.{first_input}
+use Rattle.numbers.proofs.ErrLaws.{handed_on}
+use Rattle.job.proofs.FillLaws.{numbers_course, filling_again, filling_stop, filling_done}
+use Rattle.job.proofs.JobLaws.{input_line, filled_front}
 use Rattle.job.proofs.read_inputs.Goals as goal
 
-pub read_table-requires : goal.read_table-requires
-read_table-requires c =
-    let words = c.fill_numbers-lines.new.words in
-    let filled = c.fill_numbers-lines.ensures in
-    (c.requires, filled_front width (inputs_of c.args.numbers) words c.requires filled.same filled.kept)
-
-pub returns-in-Faulty : goal.returns-in-Faulty
-unfolding read_inputs
-returns-in-Faulty c =
+pub loop-i-preserved : goal.loop-i-preserved
+loop-i-preserved c =
     let args = c.args in
-    let words = c.fill_numbers-lines.new.words in
-    c.refused.ensures
-    ∙ ap reading
-    (many_broken _ _ c.in-Faulty.number c.in-Faulty.line
-    (ap (lines_said args.text.now (inputs_of args.numbers) words) (sym c.in-Faulty.is) ∙ c.fill_numbers-lines.ensures.said))
+    let read = c.in_ok-read.read in
+    filling_again numbers_course args.count first_input args.count args.text.now args.from (replicate width 0) (read.value ∷ []) (omega arith)
+    (c.in_ok-read.ensures ∙ input_line (first_input + c.loop-i.i) (drop c.loop-i.at args.text.now) (omega arith))
+    refl refl (omega arith) c.requires c.loop-i.invariant
 
-pub returns-in-Next : goal.returns-in-Next
-unfolding read_inputs
-returns-in-Next c =
+pub returns-in_err-read : goal.returns-in_err-read
+returns-in_err-read c =
     let args = c.args in
-    let text = args.text.now in
-    let words = c.fill_numbers-lines.new.words in
-    c.read_table.ensures
-    ∙ ap reading
-    (many_told _ _ (take (inputs_of args.numbers) words) (drop c.in-Next.next text)
-    (ap (lines_said text (inputs_of args.numbers) words) (sym c.in-Next.is) ∙ c.fill_numbers-lines.ensures.said))
+    let refusal = c.in_err-read.field-0.0 in
+    let fault = c.in_err-read.ensures in
+    let read = filling_stop numbers_course args.count first_input args.count args.text.now args.from (replicate width 0) refusal.fault (omega arith)
+    (fault.0 ∙ input_line (first_input + c.loop-i.i) (drop c.loop-i.at args.text.now) (omega arith)) c.loop-i.invariant in
+    rw (handed_on _ c.from_residual.ensures.1, fault.1) (read.said, tt)
+
+pub returns : goal.returns
+returns c =
+    let args = c.args in
+    let read = filling_done numbers_course args.count first_input args.count args.text.now args.from (replicate width 0) (omega arith)
+    (omega arith) c.loop-i.invariant in
+    (read.said, filled_front width args.count c.loop-i.memory.words c.requires read.same read.kept)

@@ -1,73 +1,80 @@
 -- `job::read_table` meets its contract. Assumes nothing.
 use Prim.Native.Nat.{◌+◌, ◌*◌}
 use mathlib.Core.List.{[], ◌∷◌}
-use mathlib.Core.Path.{refl, sym, ap, ◌∙◌}
+use mathlib.Core.Path.{ap, ◌∙◌}
 use lib.ListN.{take, drop}
 use Rattle.rules.specs.Limits.{row_words, most_rows, table_words}
-use Rattle.job.specs.Jobs.{first_input, inputs_of}
+use Rattle.job.specs.Jobs.{first_input}
 use Rattle.lines.specs.Lines.{rows_key}
-use Rattle.job.specs.Read.{line_said, lines_said, reading}
+use Rattle.job.specs.Read.{numbers_of, reading}
 use Rattle.lines.proofs.LineLaws.{line_within}
-use Rattle.job.proofs.JobLaws.{table_uncounted, table_broken, table_further, table_told, filled_front, rows_counted, reading_told}
+use Rattle.numbers.proofs.ErrLaws.{handed_on}
+use Rattle.job.proofs.JobLaws.{table_uncounted, table_broken, table_further, table_told, filled_front, rows_counted, reading_refused, reading_told}
 use native.Mathlib.Omega.{arith}
 use Rattle.job.proofs.read_table.Goals as goal
 
-pub fill_rows-rows-requires : goal.fill_rows-rows-requires
-fill_rows-rows-requires c =
+pub returns-in_err-rows : goal.returns-in_err-rows
+returns-in_err-rows c =
     let args = c.args in
-    let text = args.text.now in
-    let rows = line_within (rows_key ∷ []) most_rows c.in-Number.value (drop args.at text) (drop c.in-Number.next text)
-    (ap (line_said text) (sym c.in-Number.is) ∙ c.read_line-count.ensures) in
-    (refl, rows, omega (arith, c.requires.0))
+    let refusal = c.in_err-rows.ensures in
+    rw (handed_on _ c.from_residual.ensures.1, refusal.1)
+    (reading_refused _ _
+    ∙ ap reading (table_uncounted (first_input + args.head.inputs) (numbers_of args.head) (take args.head.inputs args.memory.words) (drop args.at args.text.now) _ refusal.0))
 
-pub overflow_add-inputs-then-end-text-2 : goal.overflow_add-inputs-then-end-text-2
-overflow_add-inputs-then-end-text-2 c =
+pub read_rows-requires : goal.read_rows-requires
+read_rows-requires c =
     let args = c.args in
     let text = args.text.now in
-    omega (
-      arith,
-      line_within (rows_key ∷ []) most_rows c.in-Number.value (drop args.at text) (drop c.in-Number.next text) (ap (line_said text) (sym c.in-Number.is) ∙ c.read_line-count.ensures),
-      c.requires.0,
-    )
+    let rows = c.in_ok-rows.rows in
+    (line_within (rows_key ∷ []) most_rows rows.value (drop args.at text) (drop rows.next text) c.in_ok-rows.ensures, omega arith)
+
+pub returns-in_err-end : goal.returns-in_err-end
+returns-in_err-end c =
+    let args = c.args in
+    let text = args.text.now in
+    let rows = c.in_ok-rows.rows in
+    let said = rw c.in_err-end.was at c.read_rows.ensures.said in
+    rw (handed_on _ c.from_residual-in_err-end.ensures.1)
+    (reading_refused _ _
+    ∙ ap reading
+    (table_broken (first_input + args.head.inputs) (numbers_of args.head) (take args.head.inputs args.memory.words) (drop args.at text) rows.value
+    (5 + args.head.inputs + 1) (drop rows.next text) c.in_ok-rows.ensures (omega arith) _ _ said))
+
+pub overflow_add-result-then-end-text : goal.overflow_add-result-then-end-text
+overflow_add-result-then-end-text c =
+    let args = c.args in
+    let text = args.text.now in
+    let rows = c.in_ok-rows.rows in
+    let few = line_within (rows_key ∷ []) most_rows rows.value (drop args.at text) (drop rows.next text) c.in_ok-rows.ensures in
+    omega arith
 
 pub returns-then-end-text : goal.returns-then-end-text
 returns-then-end-text c =
     let args = c.args in
     let text = args.text.now in
-    let words = c.fill_rows-rows.new.words in
-    c.refused-then-end-text.ensures
+    let rows = c.in_ok-rows.rows in
+    let words = c.read_rows.new.table in
+    let said = rw c.in_ok-end.was at c.read_rows.ensures.said in
+    reading_refused _ _
     ∙ ap reading
-    (table_further (first_input + inputs_of args.numbers) args.numbers (take (inputs_of args.numbers) args.memory.words) (drop args.at text) c.in-Number.value (6 + inputs_of args.numbers) (drop c.in-Number.next text) (ap (line_said text) (sym c.in-Number.is) ∙ c.read_line-count.ensures) (omega arith) (take (row_words * c.in-Number.value) words) text c.in-Next.end
-    (ap (lines_said text (row_words * c.in-Number.value) words) (sym c.in-Next.is) ∙ c.fill_rows-rows.ensures.said) c.if-end-text.true)
+    (table_further (first_input + args.head.inputs) (numbers_of args.head) (take args.head.inputs args.memory.words) (drop args.at text) rows.value
+    (5 + args.head.inputs + 1) (drop rows.next text) c.in_ok-rows.ensures (omega arith) (take (row_words * rows.value) words) text c.in_ok-end.end
+    said c.if-end-text.true)
 
-pub returns-in-Faulty : goal.returns-in-Faulty
-returns-in-Faulty c =
+pub returns : goal.returns
+returns c =
     let args = c.args in
     let text = args.text.now in
-    c.refused.ensures
-    ∙ ap reading (table_uncounted (first_input + inputs_of args.numbers) args.numbers (take (inputs_of args.numbers) args.memory.words) (drop args.at text) c.in-Faulty.number (ap (line_said text) (sym c.in-Faulty.is) ∙ c.read_line-count.ensures))
-
-pub returns-in-Faulty-rows : goal.returns-in-Faulty-rows
-returns-in-Faulty-rows c =
-    let args = c.args in
-    let text = args.text.now in
-    c.refused-in-Faulty-rows.ensures
+    let rows = c.in_ok-rows.rows in
+    let words = c.read_rows.new.table in
+    let values = take args.head.inputs args.memory.words in
+    let few = line_within (rows_key ∷ []) most_rows rows.value (drop args.at text) (drop rows.next text) c.in_ok-rows.ensures in
+    let same = c.read_rows.ensures.same in
+    let said = rw c.in_ok-end.was at c.read_rows.ensures.said in
+    reading_told (numbers_of args.head) args.memory.words words values (take (row_words * rows.value) words) rows.value c.requires.1
+    (filled_front table_words (row_words * rows.value) words (omega arith) same c.read_rows.ensures.kept)
+    (rows_counted rows.value words (omega (arith, few, same)))
     ∙ ap reading
-    (table_broken (first_input + inputs_of args.numbers) args.numbers (take (inputs_of args.numbers) args.memory.words) (drop args.at text) c.in-Number.value (6 + inputs_of args.numbers) (drop c.in-Number.next text) (ap (line_said text) (sym c.in-Number.is) ∙ c.read_line-count.ensures) (omega arith) c.in-Faulty-rows.number c.in-Faulty-rows.line
-    (ap (lines_said text (row_words * c.in-Number.value) c.fill_rows-rows.new.words) (sym c.in-Faulty-rows.is) ∙ c.fill_rows-rows.ensures.said))
-
-pub returns-else-end-text : goal.returns-else-end-text
-returns-else-end-text c =
-    let args = c.args in
-    let text = args.text.now in
-    let counted = (ap (line_said text) (sym c.in-Number.is) ∙ c.read_line-count.ensures) in
-    let within = line_within (rows_key ∷ []) most_rows c.in-Number.value (drop args.at text) (drop c.in-Number.next text) counted in
-    let words = c.fill_rows-rows.new.words in
-    let same = c.fill_rows-rows.ensures.same in
-    reading_told args.numbers args.memory.words words (take (inputs_of args.numbers) args.memory.words)
-    (take (row_words * c.in-Number.value) words) c.in-Number.value c.requires.1
-    (filled_front table_words (row_words * c.in-Number.value) words (omega (arith, within)) same c.fill_rows-rows.ensures.kept)
-    (rows_counted c.in-Number.value words (omega (arith, within, same)))
-    ∙ ap reading
-    (table_told (first_input + inputs_of args.numbers) args.numbers (take (inputs_of args.numbers) args.memory.words) (drop args.at text) c.in-Number.value (6 + inputs_of args.numbers) (drop c.in-Number.next text) counted (omega arith) (take (row_words * c.in-Number.value) words) text c.in-Next.end
-    (ap (lines_said text (row_words * c.in-Number.value) words) (sym c.in-Next.is) ∙ c.fill_rows-rows.ensures.said) c.if-end-text.false)
+    (table_told (first_input + args.head.inputs) (numbers_of args.head) values (drop args.at text) rows.value
+    (5 + args.head.inputs + 1) (drop rows.next text) c.in_ok-rows.ensures (omega arith) (take (row_words * rows.value) words) text c.in_ok-end.end
+    said c.if-end-text.false)

@@ -1,68 +1,54 @@
 -- `monitor::go_on` meets its contract.
 use native.Mathlib.Omega.{arith}
-use mathlib.Core.Path.{sym, subst}
+use Prim.Native.Nat.{ℕ}
+use mathlib.Core.Path.{◌≡◌, sym, ◌∙◌, subst}
+use mathlib.Core.Bool.{true≢false}
+use Rattle.rules.specs.declared.Ended.{Ended}
 use Rattle.rules.specs.Rows.{rows_of}
-use Rattle.step.specs.Denoted.{arrays}
-use Rattle.step.specs.Turns.{Turned}
-use Rattle.monitor.specs.Going.{Went}
-use Rattle.monitor.proofs.GoingLaws.{starts, done_here, spent_here, stopped_here, full_here, goes_on}
+use Rattle.step.specs.Denoted.{arrays_of, held_of}
+use Rattle.monitor.specs.Going.{reached_by, Went}
+use Rattle.monitor.proofs.GoingLaws.{done_here, spent_here, halts_here, goes_on}
 use Rattle.monitor.proofs.go_on.Goals as goal
 
-pub loop-here-init : goal.loop-here-init
-loop-here-init c =
+pub returns-then-is_done : goal.returns-then-is_done
+returns-then-is_done c =
     let a = c.args in
-    starts (rows_of a.table.now) (arrays a.memory.words a.entries.now a.pile.now a.trace.now) a.held a.budget c.requires
+    let now = c.loop-steps in
+    done_here (rows_of a.table.now) (arrays_of a.machine.now a.trace.now) (held_of a.machine.now) a.budget (arrays_of now.machine now.trace)
+    (held_of now.machine) now.steps now.invariant (c.is_done.ensures.0 c.if-is_done.true)
 
-pub returns-then-here-eq0 : goal.returns-then-here-eq0
-returns-then-here-eq0 c =
+pub returns-in-Err : goal.returns-in-Err
+returns-in-Err c =
     let a = c.args in
-    let now = c.loop-here in
-    subst (Went (rows_of a.table.now) (arrays a.memory.words a.entries.now a.pile.now a.trace.now) a.held a.budget _ _ _) (sym c.end_run.ensures)
-    (done_here (rows_of a.table.now) (arrays a.memory.words a.entries.now a.pile.now a.trace.now) a.held a.budget (arrays now.words now.entries now.pile now.trace) now.here now.steps now.invariant c.if-here-eq0.true)
+    let now = c.loop-steps in
+    halts_here (rows_of a.table.now) (arrays_of a.machine.now a.trace.now) (held_of a.machine.now) a.budget (arrays_of now.machine now.trace)
+    (held_of now.machine) now.steps now.invariant (λ e. omega arith) c.in-Err.halt c.step.new.self c.step.new.trace _ c.in-Err.ensures.turned
+    c.in-Err.ensures.err c.into.result c.into.ensures
 
-pub returns-then-steps-budget : goal.returns-then-steps-budget
-returns-then-steps-budget c =
+pub loop-steps-preserved : goal.loop-steps-preserved
+loop-steps-preserved c =
     let a = c.args in
-    let now = c.loop-here in
-    subst (Went (rows_of a.table.now) (arrays a.memory.words a.entries.now a.pile.now a.trace.now) a.held a.budget _ _ _) (sym c.end_run-then-steps-budget.ensures)
-    (spent_here (rows_of a.table.now) (arrays a.memory.words a.entries.now a.pile.now a.trace.now) a.held a.budget (arrays now.words now.entries now.pile now.trace) now.here now.steps now.invariant c.if-here-eq0.false c.if-steps-budget.true)
+    let now = c.loop-steps in
+    goes_on (rows_of a.table.now) (arrays_of a.machine.now a.trace.now) (held_of a.machine.now) a.budget (arrays_of now.machine now.trace)
+    (held_of now.machine) now.steps now.invariant (λ e. omega arith) (arrays_of c.step.new.self c.step.new.trace) (held_of c.step.new.self)
+    c.in_default.ensures.turned
 
-pub step-turn-requires : goal.step-turn-requires
-step-turn-requires c =
-    (c.loop-here.invariant.holds, let busy = c.if-here-eq0.false in omega arith)
-
-pub overflow_add-steps : goal.overflow_add-steps
-overflow_add-steps c =
+pub returns-then-is_done-2 : goal.returns-then-is_done-2
+returns-then-is_done-2 c =
     let a = c.args in
-    let now = c.loop-here in
-    record { fits = omega (arith, now.invariant.within, c.ranges.budget.fits, c.if-steps-budget.false) }
+    let now = c.loop-steps in
+    let spent : now.steps ≡ a.budget = omega arith in
+    subst (λ (n : ℕ). Went (rows_of a.table.now) (arrays_of a.machine.now a.trace.now) (held_of a.machine.now) a.budget now.machine.pending.items now.machine.pile.items now.trace (reached_by (record { ended = Ended.Done; steps = n }) now.machine))
+    spent
+    (done_here (rows_of a.table.now) (arrays_of a.machine.now a.trace.now) (held_of a.machine.now) a.budget (arrays_of now.machine now.trace)
+    (held_of now.machine) now.steps now.invariant (c.is_done-2.ensures.0 c.if-is_done-2.true))
 
-pub loop-here-smaller : goal.loop-here-smaller
-loop-here-smaller c =
+pub returns-else-is_done-2 : goal.returns-else-is_done-2
+returns-else-is_done-2 c =
     let a = c.args in
-    let now = c.loop-here in
-    let other = c.if-steps-budget.false in
-    omega (arith, now.invariant.within)
-
-pub loop-here-preserved : goal.loop-here-preserved
-loop-here-preserved c =
-    let a = c.args in
-    let now = c.loop-here in
-    goes_on (rows_of a.table.now) (arrays a.memory.words a.entries.now a.pile.now a.trace.now) a.held a.budget (arrays now.words now.entries now.pile now.trace) now.here now.steps now.invariant c.if-steps-budget.false (arrays _ _ _ _) _
-    (subst (Turned (rows_of a.table.now) (arrays now.words now.entries now.pile now.trace) now.here (arrays _ _ _ _)) c.in-Went.is c.step-turn.ensures)
-
-pub returns-in-Stopped : goal.returns-in-Stopped
-returns-in-Stopped c =
-    let a = c.args in
-    let now = c.loop-here in
-    subst (Went (rows_of a.table.now) (arrays a.memory.words a.entries.now a.pile.now a.trace.now) a.held a.budget _ _ _) (sym c.end_run-in-Stopped.ensures)
-    (stopped_here (rows_of a.table.now) (arrays a.memory.words a.entries.now a.pile.now a.trace.now) a.held a.budget (arrays now.words now.entries now.pile now.trace) now.here now.steps now.invariant c.if-steps-budget.false _ _ (arrays _ _ _ _)
-    (subst (Turned (rows_of a.table.now) (arrays now.words now.entries now.pile now.trace) now.here (arrays _ _ _ _)) c.in-Stopped.is c.step-turn.ensures))
-
-pub returns-in-NoRoom : goal.returns-in-NoRoom
-returns-in-NoRoom c =
-    let a = c.args in
-    let now = c.loop-here in
-    subst (Went (rows_of a.table.now) (arrays a.memory.words a.entries.now a.pile.now a.trace.now) a.held a.budget _ _ _) (sym c.end_run-in-NoRoom.ensures)
-    (full_here (rows_of a.table.now) (arrays a.memory.words a.entries.now a.pile.now a.trace.now) a.held a.budget (arrays now.words now.entries now.pile now.trace) now.here now.steps now.invariant c.if-steps-budget.false _ (arrays _ _ _ _)
-    (subst (Turned (rows_of a.table.now) (arrays now.words now.entries now.pile now.trace) now.here (arrays _ _ _ _)) c.in-NoRoom.is c.step-turn.ensures))
+    let now = c.loop-steps in
+    let spent : now.steps ≡ a.budget = omega arith in
+    subst (λ (n : ℕ). Went (rows_of a.table.now) (arrays_of a.machine.now a.trace.now) (held_of a.machine.now) a.budget now.machine.pending.items now.machine.pile.items now.trace (reached_by (record { ended = Ended.Spent; steps = n }) now.machine))
+    spent
+    (spent_here (rows_of a.table.now) (arrays_of a.machine.now a.trace.now) (held_of a.machine.now) a.budget (arrays_of now.machine now.trace)
+    (held_of now.machine) now.steps now.invariant (λ e. true≢false (sym (c.is_done-2.ensures.1 e) ∙ c.if-is_done-2.false)) spent)

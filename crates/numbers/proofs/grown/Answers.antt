@@ -3,5 +3,5 @@ use Rattle.lines.proofs.NumberLaws.{digit_within}
 use native.Mathlib.Omega.{arith}
 use Rattle.numbers.proofs.grown.Goals as goal
 
-pub overflow_sub-more : goal.overflow_sub-more
-overflow_sub-more c = omega (arith, digit_within c.args.byte c.requires.1)
+pub overflow_sub-byte : goal.overflow_sub-byte
+overflow_sub-byte c = omega (arith, digit_within c.args.byte c.requires.1)

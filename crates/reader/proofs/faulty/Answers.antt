@@ -1,10 +1,9 @@
--- `reader::faulty` meets its contract.
+-- `reader::faulty` meets its contract. Assumes nothing.
 use mathlib.Core.Path.{sym, ap, ◌∙◌}
+use Rattle.language.specs.declared.Flaw.{Flaw}
 use Rattle.language.specs.declared.Part.{Part}
-use Rattle.language.specs.Limits.{faulty_word}
-use Rattle.language.specs.Readings.{refused}
 use Rattle.spans.proofs.WordLaws.{cut_part}
 use Rattle.reader.proofs.faulty.Goals as goal
 
 pub returns : goal.returns
-returns c = c.refused.ensures ∙ ap (λ (p : Part). refused faulty_word 0 p) (sym (cut_part c.word_at-w.ensures))
+returns c = ap (λ (p : Part). record { flaw = Flaw.FaultyWord; part = p }) (c.from.ensures ∙ sym (cut_part c.word_at.ensures))

@@ -1,32 +1,28 @@
--- `reader::read_body` meets its contract.
+-- `reader::read_body` meets its contract. Assumes nothing.
 use native.Mathlib.Omega.{arith}
+use mathlib.Core.Path.{ap}
+use Rattle.language.specs.Limits.{faulty_word}
+use Rattle.language.specs.Readings.{refused}
 use Rattle.reader.specs.Machine.{at_finish}
-use Rattle.reader.proofs.TextLaws.{body_faulty, body_left, body_read, body_rows, reads_as}
+use Rattle.reader.proofs.WholeLaws.{said_flaw}
+use Rattle.reader.proofs.TextLaws.{body_faulty, body_left, body_read, reads_as}
 use Rattle.reader.proofs.read_body.Goals as goal
 
-pub returns-then-start-end : goal.returns-then-start-end
-returns-then-start-end c =
+pub returns-in-Err : goal.returns-in-Err
+returns-in-Err c =
     let a = c.args in
-    let b = rw c.in-Next.is at c.read_block-block.ensures.0 in
-    reads_as a.text.now a.table.now c.refused.ensures
-    (body_left a.text.now a.table.now _ _ a.s _ _ c.word_at-w.result c.requires.0 c.requires.1 b.0 b.1 c.word_at-w.ensures
-    c.if-start-end.true)
+    reads_as a.text.now a.table.now (said_flaw c.faulty.ensures)
+    (body_faulty a.text.now a.table.now a.s _ c.requires.0 c.requires.1 (c.in-Err.ensures at_finish))
 
-pub finish-requires : goal.finish-requires
-finish-requires c =
-    let b = rw c.in-Next.is at c.read_block-block.ensures.0 in
-    body_rows b.0 c.requires.2
-
-pub returns-in-Faulty : goal.returns-in-Faulty
-returns-in-Faulty c =
+pub returns-then-rest : goal.returns-then-rest
+returns-then-rest c =
     let a = c.args in
-    let b = rw c.in-Faulty.is at c.read_block-block.ensures.0 in
-    reads_as a.text.now a.table.now c.faulty.ensures
-    (body_faulty a.text.now a.table.now a.s _ c.requires.0 c.requires.1 (b.0 at_finish))
+    let b = c.in-Ok.ensures in
+    reads_as a.text.now a.table.now (ap (refused faulty_word 0) c.from.ensures)
+    (body_left a.text.now a.table.now _ _ a.s _ _ c.word_at-rest.result c.requires.0 c.requires.1 b.0 b.1 c.word_at-rest.ensures c.if-rest.true)
 
-pub returns-else-start-end : goal.returns-else-start-end
-returns-else-start-end c =
+pub returns : goal.returns
+returns c =
     let a = c.args in
-    let b = rw c.in-Next.is at c.read_block-block.ensures.0 in
-    body_read a.text.now a.table.now _ _ a.s _ _ c.word_at-w.result _ _ c.requires.0 c.requires.1 c.requires.2 b.0 c.word_at-w.ensures
-    (omega (arith, c.word_at-w.ensures.forward, c.if-start-end.false)) c.finish.ensures
+    body_read a.text.now a.table.now _ _ a.s _ _ c.word_at-rest.result _ _ c.requires.0 c.requires.1 (omega arith) c.in-Ok.ensures.0 c.word_at-rest.ensures
+    (omega (arith, c.word_at-rest.ensures.forward, c.if-rest.false)) c.finish.ensures

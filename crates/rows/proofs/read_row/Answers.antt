@@ -18,4 +18,4 @@ bounds-table-at-4 c = omega (arith, row_within c.args.table.now c.args.row c.req
 pub returns : goal.returns
 returns c =
     let a = c.args in
-    row_read a.table.now a.row c.kind_of.result (row_within a.table.now a.row c.requires) c.kind_of.ensures
+    row_read a.table.now a.row c.from.result (row_within a.table.now a.row c.requires) c.from.ensures

@@ -23,49 +23,46 @@ of_row :
     → may_assign (stmt_node (expr_at rows) (stmt_at rows) i row row.kind) ≡ set → set ≡ may_assign (stmt_at rows i)
 of_row sound more read e = sym e ∙ ap may_assign (stmt_of_row sound more read)
 
-pub read_row-here-requires : goal.read_row-here-requires
-read_row-here-requires t c = c.requires.1
-
 pub may_assign_lent-requires : goal.may_assign_lent-requires
 may_assign_lent-requires t c =
-    let w = (sequence_words (sound_as c.requires.0 c.requires.1 c.read_row-here.ensures c.in-Sequence.is)).0 in (omega (arith, w), (c.requires.0, omega (arith, w, c.requires.1)))
+    let w = (sequence_words (sound_as c.row-here.ensures.sound c.requires c.row-here.ensures.read c.in-Sequence.is)).0 in (omega (arith, w), omega (arith, w, c.requires))
 
 pub may_assign_lent-requires-in-Sequence : goal.may_assign_lent-requires-in-Sequence
 may_assign_lent-requires-in-Sequence t c =
-    let w = (sequence_words (sound_as c.requires.0 c.requires.1 c.read_row-here.ensures c.in-Sequence.is)).1 in (omega (arith, w), (c.requires.0, omega (arith, w, c.requires.1)))
+    let w = (sequence_words (sound_as c.row-here.ensures.sound c.requires c.row-here.ensures.read c.in-Sequence.is)).1 in (omega (arith, w), omega (arith, w, c.requires))
 
 pub may_assign_lent-requires-in-If : goal.may_assign_lent-requires-in-If
 may_assign_lent-requires-in-If t c =
-    let w = (if_words (sound_as c.requires.0 c.requires.1 c.read_row-here.ensures c.in-If.is)).1 in (omega (arith, w), (c.requires.0, omega (arith, w, c.requires.1)))
+    let w = (if_words (sound_as c.row-here.ensures.sound c.requires c.row-here.ensures.read c.in-If.is)).1 in (omega (arith, w), omega (arith, w, c.requires))
 
 pub may_assign_lent-requires-in-If-2 : goal.may_assign_lent-requires-in-If-2
 may_assign_lent-requires-in-If-2 t c =
-    let words = if_words (sound_as c.requires.0 c.requires.1 c.read_row-here.ensures c.in-If.is) in
-    (omega (arith, words.1, words.2), (c.requires.0, omega (arith, words.1, words.2, c.requires.1)))
+    let words = if_words (sound_as c.row-here.ensures.sound c.requires c.row-here.ensures.read c.in-If.is) in
+    (omega (arith, words.1, words.2), omega (arith, words.1, words.2, c.requires))
 
 pub may_assign_lent-requires-in-While : goal.may_assign_lent-requires-in-While
 may_assign_lent-requires-in-While t c =
-    let words = while_words (sound_as c.requires.0 c.requires.1 c.read_row-here.ensures c.in-While.is) in
-    (omega (arith, words.0, words.1), (c.requires.0, omega (arith, words.0, words.1, c.requires.1)))
+    let words = while_words (sound_as c.row-here.ensures.sound c.requires c.row-here.ensures.read c.in-While.is) in
+    (omega (arith, words.0, words.1), omega (arith, words.0, words.1, c.requires))
 
 pub returns-in-Assign : goal.returns-in-Assign
 returns-in-Assign t c =
-    c.only_mark.ensures ∙ ap only (mod-eq_of_lt (assign_words (sound_as c.requires.0 c.requires.1 c.read_row-here.ensures c.in-Assign.is)).0)
-    ∙ of_row c.requires.0 c.requires.1 c.read_row-here.ensures (kind_arm (assign_arms _ _ _ _).0 _ c.in-Assign.in-Assign-own.keys1)
+    c.only_mark.ensures ∙ ap only (mod-eq_of_lt (assign_words (sound_as c.row-here.ensures.sound c.requires c.row-here.ensures.read c.in-Assign.is)).0)
+    ∙ of_row c.row-here.ensures.sound c.requires c.row-here.ensures.read (kind_arm (assign_arms _ _ _ _).0 _ c.in-Assign.in-Assign-own.keys1)
 
 pub returns-in-Sequence : goal.returns-in-Sequence
 returns-in-Sequence t c =
     c.joined.ensures ∙ ap₂ union c.may_assign_lent.ensures c.may_assign_lent-in-Sequence.ensures
-    ∙ of_row c.requires.0 c.requires.1 c.read_row-here.ensures (kind_arm (assign_arms _ _ _ _).1 _ c.in-Sequence.in-Sequence-own.keys2)
+    ∙ of_row c.row-here.ensures.sound c.requires c.row-here.ensures.read (kind_arm (assign_arms _ _ _ _).1 _ c.in-Sequence.in-Sequence-own.keys2)
 
 pub returns-in-If : goal.returns-in-If
 returns-in-If t c =
     c.joined-in-If.ensures ∙ ap₂ union c.may_assign_lent-in-If.ensures c.may_assign_lent-in-If-2.ensures
-    ∙ of_row c.requires.0 c.requires.1 c.read_row-here.ensures (kind_arm (assign_arms _ _ _ _).2 _ c.in-If.in-If-own.keys3)
+    ∙ of_row c.row-here.ensures.sound c.requires c.row-here.ensures.read (kind_arm (assign_arms _ _ _ _).2 _ c.in-If.in-If-own.keys3)
 
 pub returns-in-While : goal.returns-in-While
 returns-in-While t c =
-    c.may_assign_lent-in-While.ensures ∙ of_row c.requires.0 c.requires.1 c.read_row-here.ensures (kind_arm (assign_arms _ _ _ _).3 _ c.in-While.in-While-own.keys4)
+    c.may_assign_lent-in-While.ensures ∙ of_row c.row-here.ensures.sound c.requires c.row-here.ensures.read (kind_arm (assign_arms _ _ _ _).3 _ c.in-While.in-While-own.keys4)
 
 pub returns-in_default : goal.returns-in_default
-returns-in_default t c = of_row c.requires.0 c.requires.1 c.read_row-here.ensures (kind_arm (assign_arms _ _ _ _).4 _ (opened c.in_default.in_default-own.keys5))
+returns-in_default t c = of_row c.row-here.ensures.sound c.requires c.row-here.ensures.read (kind_arm (assign_arms _ _ _ _).4 _ (opened c.in_default.in_default-own.keys5))

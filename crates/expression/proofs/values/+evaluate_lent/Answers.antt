@@ -25,35 +25,29 @@ of_row :
 of_row {rows} {i} {row} words marks sound more read e known =
     known ∙ ap (valued_of words marks) (sym e ∙ expr_of_row sound more read)
 
-pub read_row-here-requires : goal.read_row-here-requires
-read_row-here-requires t c = c.requires.1
-
-pub read_variable-requires : goal.read_variable-requires
-read_variable-requires t c = c.requires.2
-
 pub evaluate_lent-requires : goal.evaluate_lent-requires
 evaluate_lent-requires t c =
-    let w = (binary_words (sound_as c.requires.0 c.requires.1 c.read_row-here.ensures c.in-Binary.is)).0 in (omega (arith, w), (c.requires.0, omega (arith, w, c.requires.1), c.requires.2))
+    let w = (binary_words (sound_as c.row-here.ensures.sound c.requires c.row-here.ensures.read c.in-Binary.is)).0 in (omega (arith, w), omega (arith, w, c.requires))
 
 pub evaluate_lent-requires-in-Binary : goal.evaluate_lent-requires-in-Binary
 evaluate_lent-requires-in-Binary t c =
-    let w = (binary_words (sound_as c.requires.0 c.requires.1 c.read_row-here.ensures c.in-Binary.is)).1 in (omega (arith, w), (c.requires.0, omega (arith, w, c.requires.1), c.requires.2))
+    let w = (binary_words (sound_as c.row-here.ensures.sound c.requires c.row-here.ensures.read c.in-Binary.is)).1 in (omega (arith, w), omega (arith, w, c.requires))
 
 pub returns-in-Constant : goal.returns-in-Constant
 returns-in-Constant t c =
-    of_row c.args.words.now c.args.marks c.requires.0 c.requires.1 c.read_row-here.ensures (kind_arm (expr_arms _ _).0 _ c.in-Constant.in-Constant-own.keys1) (c.pack.ensures ∙ valued_constant _ _ _)
+    of_row c.args.words.now c.args.marks c.row-here.ensures.sound c.requires c.row-here.ensures.read (kind_arm (expr_arms _ _).0 _ c.in-Constant.in-Constant-own.keys1) (c.pack.ensures ∙ valued_constant _ _ _)
 
 pub returns-in-Variable : goal.returns-in-Variable
 returns-in-Variable t c =
-    of_row c.args.words.now c.args.marks c.requires.0 c.requires.1 c.read_row-here.ensures (kind_arm (expr_arms _ _).1 _ c.in-Variable.in-Variable-own.keys2)
-    (c.read_variable.ensures ∙ ap (λ (v : ℕ). valued_of c.args.words.now c.args.marks (variable v)) (mod-eq_of_lt (variable_words (sound_as c.requires.0 c.requires.1 c.read_row-here.ensures c.in-Variable.is))))
+    of_row c.args.words.now c.args.marks c.row-here.ensures.sound c.requires c.row-here.ensures.read (kind_arm (expr_arms _ _).1 _ c.in-Variable.in-Variable-own.keys2)
+    (c.read_variable.ensures ∙ ap (λ (v : ℕ). valued_of c.args.words.now c.args.marks (variable v)) (mod-eq_of_lt (variable_words (sound_as c.row-here.ensures.sound c.requires c.row-here.ensures.read c.in-Variable.is))))
 
 pub returns-in-Binary : goal.returns-in-Binary
 returns-in-Binary t c =
-    of_row c.args.words.now c.args.marks c.requires.0 c.requires.1 c.read_row-here.ensures (kind_arm (expr_arms _ _).2 _ c.in-Binary.in-Binary-own.keys3)
+    of_row c.args.words.now c.args.marks c.row-here.ensures.sound c.requires c.row-here.ensures.read (kind_arm (expr_arms _ _).2 _ c.in-Binary.in-Binary-own.keys3)
     (c.pack-in-Binary.ensures
     ∙ valued_binary _ _ _ _ _ (c.unpack-left.ensures ∙ c.evaluate_lent.ensures) (c.unpack-right.ensures ∙ c.evaluate_lent-in-Binary.ensures) c.operated.ensures c.joined.ensures)
 
 pub returns-in_default : goal.returns-in_default
 returns-in_default t c =
-    of_row c.args.words.now c.args.marks c.requires.0 c.requires.1 c.read_row-here.ensures (kind_arm (expr_arms _ _).3 _ (opened c.in_default.in_default-own.keys4)) (c.pack-in_default.ensures ∙ valued_constant _ _ _)
+    of_row c.args.words.now c.args.marks c.row-here.ensures.sound c.requires c.row-here.ensures.read (kind_arm (expr_arms _ _).3 _ (opened c.in_default.in_default-own.keys4)) (c.pack-in_default.ensures ∙ valued_constant _ _ _)

@@ -9,5 +9,5 @@ use Rattle.expression.proofs.values.read_variable.Goals as goal
 pub returns : goal.returns
 returns c =
     c.pack.ensures
-    ∙ valued_variable c.args.words.now c.args.marks (c.args.v % width) c.read_lent-value.ensures
+    ∙ valued_variable c.args.words.now c.args.marks (c.args.v % width) c.read_lent.ensures
     (ap (bit_and c.args.marks) c.only_mark.ensures)

@@ -8,7 +8,7 @@ use lib.ListN.{length}
 use mathlib.Core.List.{List}
 use Rattle.rules.specs.declared.Row.{Row}
 use Rattle.rules.specs.Marks.{has, provisional}
-use Rattle.rules.specs.Rows.{rows_of, row_at}
+use Rattle.rules.specs.Rows.{row_at}
 use Rattle.rules.specs.Trees.{expr_at, expr_node}
 use Rattle.rules.specs.Values.{level}
 use Rattle.rules.specs.Sound.{Sound}
@@ -24,37 +24,34 @@ of_row :
     → provisional (level marks (expr_node (expr_at rows) row row.kind)) ≡ b → b ≡ provisional (level marks (expr_at rows i))
 of_row marks sound more read e = sym e ∙ ap (λ x. provisional (level marks x)) (expr_of_row sound more read)
 
-pub read_row-here-requires : goal.read_row-here-requires
-read_row-here-requires t c = c.requires.1
-
 pub is_provisional-requires : goal.is_provisional-requires
 is_provisional-requires t c =
-    let w = (binary_words (sound_as c.requires.0 c.requires.1 c.read_row-here.ensures c.in-Binary.is)).0 in (omega (arith, w), (c.requires.0, omega (arith, w, c.requires.1)))
+    let w = (binary_words (sound_as c.row-here.ensures.sound c.requires c.row-here.ensures.read c.in-Binary.is)).0 in (omega (arith, w), omega (arith, w, c.requires))
 
 pub returns-then-is_provisional : goal.returns-then-is_provisional
 returns-then-is_provisional t c =
     let left = sym c.is_provisional.ensures ∙ c.if-is_provisional.true in
-    of_row c.args.marks c.requires.0 c.requires.1 c.read_row-here.ensures
+    c.if-is_provisional.true ∙ of_row c.args.marks c.row-here.ensures.sound c.requires c.row-here.ensures.read
     (kind_arm (provisional_arms _ _ _).1 _ c.in-Binary.in-Binary-own.keys2
-    ∙ ap (λ (b : Bool). b || provisional (level c.args.marks (expr_at (rows_of c.args.table.now.now) c.read_row-here.result.r))) left)
+    ∙ ap (λ (b : Bool). b || provisional (level c.args.marks (expr_at c.args.table.now c.row-here.result.r))) left)
 
-pub is_provisional-requires-in-Binary : goal.is_provisional-requires-in-Binary
-is_provisional-requires-in-Binary t c =
-    let w = (binary_words (sound_as c.requires.0 c.requires.1 c.read_row-here.ensures c.in-Binary.is)).1 in (omega (arith, w), (c.requires.0, omega (arith, w, c.requires.1)))
+pub is_provisional-requires-else-is_provisional : goal.is_provisional-requires-else-is_provisional
+is_provisional-requires-else-is_provisional t c =
+    let w = (binary_words (sound_as c.row-here.ensures.sound c.requires c.row-here.ensures.read c.in-Binary.is)).1 in (omega (arith, w), omega (arith, w, c.requires))
 
 pub returns-in-Variable : goal.returns-in-Variable
 returns-in-Variable t c =
     c.has_mark.ensures
-    ∙ ap (has c.args.marks) (mod-eq_of_lt (variable_words (sound_as c.requires.0 c.requires.1 c.read_row-here.ensures c.in-Variable.is)))
-    ∙ of_row c.args.marks c.requires.0 c.requires.1 c.read_row-here.ensures (kind_arm (provisional_arms _ _ _).0 _ c.in-Variable.in-Variable-own.keys1)
+    ∙ ap (has c.args.marks) (mod-eq_of_lt (variable_words (sound_as c.row-here.ensures.sound c.requires c.row-here.ensures.read c.in-Variable.is)))
+    ∙ of_row c.args.marks c.row-here.ensures.sound c.requires c.row-here.ensures.read (kind_arm (provisional_arms _ _ _).0 _ c.in-Variable.in-Variable-own.keys1)
 
 pub returns-else-is_provisional : goal.returns-else-is_provisional
 returns-else-is_provisional t c =
     let left = sym c.is_provisional.ensures ∙ c.if-is_provisional.false in
-    c.is_provisional-in-Binary.ensures
-    ∙ of_row c.args.marks c.requires.0 c.requires.1 c.read_row-here.ensures
+    c.is_provisional-else-is_provisional.ensures
+    ∙ of_row c.args.marks c.row-here.ensures.sound c.requires c.row-here.ensures.read
     (kind_arm (provisional_arms _ _ _).1 _ c.in-Binary.in-Binary-own.keys2
-    ∙ ap (λ (b : Bool). b || provisional (level c.args.marks (expr_at (rows_of c.args.table.now.now) c.read_row-here.result.r))) left)
+    ∙ ap (λ (b : Bool). b || provisional (level c.args.marks (expr_at c.args.table.now c.row-here.result.r))) left)
 
 pub returns-in_default : goal.returns-in_default
-returns-in_default t c = of_row c.args.marks c.requires.0 c.requires.1 c.read_row-here.ensures (kind_arm (provisional_arms _ _ _).2 _ (opened c.in_default.in_default-own.keys3))
+returns-in_default t c = of_row c.args.marks c.row-here.ensures.sound c.requires c.row-here.ensures.read (kind_arm (provisional_arms _ _ _).2 _ (opened c.in_default.in_default-own.keys3))

@@ -1,35 +1,30 @@
 -- `reader::atoms::number_to_end` meets its contract. Assumes nothing.
-use native.Mathlib.Omega.{arith}
-use mathlib.Core.Path.{sym, ap, ◌∙◌}
-use Rattle.numbers.specs.Read.{field_said, next_of}
+use mathlib.Core.Path.{sym, ◌∙◌}
 use Rattle.reader.proofs.AtomLaws.{to_none, to_over, to_joined, to_is}
 use Rattle.reader.proofs.atoms.number_to_end.Goals as goal
+use Rattle.reader.proofs.atoms.number_to_end.Goals.{then-most-value-via-then-most-value, then-most-value-via-else-most-value+then-is_joined}
+
+pub returns-in_err-value : goal.returns-in_err-value
+returns-in_err-value c =
+    rw c.from_residual.ensures
+    (λ end j. to_none c.args.text.now c.args.at c.args.most j (rw c.in_err-value.was at c.number_at.ensures.0))
 
 pub returns-then-most-value : goal.returns-then-most-value
 returns-then-most-value c =
-    λ end j. to_over c.args.text.now c.args.at c.args.most j c.in-Number.value c.in-Number.next (ap (field_said c.args.text.now) (sym c.in-Number.is) ∙ c.number_at-found.ensures.0) c.if-most-value.true
-
-pub returns-then-is_joined : goal.returns-then-is_joined
-returns-then-is_joined c =
     λ end j.
-    to_joined c.args.text.now c.args.at c.args.most j c.in-Number.value c.in-Number.next (ap (field_said c.args.text.now) (sym c.in-Number.is) ∙ c.number_at-found.ensures.0)
-    (sym c.is_joined.ensures ∙ c.if-is_joined.true)
+    let read = c.in_ok-value.field-0 in
+    let said = c.in_ok-value.ensures.0 in
+    elim c.then-most-value.branch [
+      | then-most-value-via-then-most-value w ↦ to_over c.args.text.now c.args.at c.args.most j read.value read.next said w.if-most-value.true
+      | then-most-value-via-else-most-value+then-is_joined w ↦
+          to_joined c.args.text.now c.args.at c.args.most j read.value read.next said (sym w.is_joined.ensures ∙ w.if-is_joined.true)
+    ]
 
-pub overflow_cast-result : goal.overflow_cast-result
-overflow_cast-result c =
-    omega (arith, c.requires, c.if-most-value.false)
-
-pub returns-in-Nothing : goal.returns-in-Nothing
-returns-in-Nothing c =
-    λ end j.
-    to_none c.args.text.now c.args.at c.args.most j
-    (ap (field_said c.args.text.now) (sym c.in-Nothing.is) ∙ c.number_at-found.ensures.0)
-
-pub returns-else-is_joined : goal.returns-else-is_joined
-returns-else-is_joined c =
+pub returns : goal.returns
+returns c =
     let few = c.if-most-value.false in
-    let inside = ap next_of (sym c.in-Number.is) in
+    let read = c.in_ok-value.field-0 in
     λ end j.
-    let is = to_is c.args.text.now c.args.at c.args.most j c.in-Number.value c.in-Number.next (ap (field_said c.args.text.now) (sym c.in-Number.is) ∙ c.number_at-found.ensures.0)
-    (sym c.is_joined.ensures ∙ c.if-is_joined.false) (omega (arith, c.number_at-found.ensures.1)) few in
+    let is = to_is c.args.text.now c.args.at c.args.most j read.value read.next c.in_ok-value.ensures.0
+    (sym c.is_joined.ensures ∙ c.if-is_joined.false) c.in_ok-value.ensures.1 few in
     (is.0, few, is.1)

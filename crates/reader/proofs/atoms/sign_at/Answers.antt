@@ -1,82 +1,49 @@
 -- `reader::atoms::sign_at` meets its contract. Assumes nothing.
-use mathlib.Core.Path.{refl, sym, ◌∙◌}
+use mathlib.Core.Path.{refl}
+use native.Mathlib.Omega.{arith}
 use Rattle.rules.specs.declared.Operator.{Operator}
-use Rattle.language.specs.Tables.{operator_number}
+use Rattle.lines.specs.Numbers.{is_digit}
+use Rattle.language.specs.Words.{is_letter, is_joining}
 use Rattle.reader.proofs.KeyLaws.{spelling}
-use Rattle.reader.proofs.AtomLaws.{sign_is, no_sign}
+use Rattle.reader.proofs.AtomLaws.{sign_at_byte, sign_at_none}
 use Rattle.reader.proofs.atoms.sign_at.Goals as goal
 
-pub returns-then-is_word : goal.returns-then-is_word
-unfolding spelling operator_number
-returns-then-is_word c =
-    let asked = c.is_word.ensures in (
-      (λ shown w cut.
-          let told = asked.0 refl shown w cut in
-          (sign_is Operator.Sum _ (sym told.0 ∙ c.if-is_word.true), λ _. told.1 c.if-is_word.true)),
-      λ _. asked.1 c.if-is_word.true,
-    )
+pub returns-in_err-get : goal.returns-in_err-get
+returns-in_err-get c = rw c.from_residual.ensures (sign_at_none (λ h. let over = c.in_err-get.ensures.lookup.3 in absurd (omega arith)))
 
-pub returns-then-is_word-2 : goal.returns-then-is_word-2
-unfolding spelling operator_number
-returns-then-is_word-2 c =
-    let asked = c.is_word-2.ensures in (
-      (λ shown w cut.
-          let told = asked.0 refl shown w cut in
-          (sign_is Operator.Difference _ (sym told.0 ∙ c.if-is_word-2.true), λ _. told.1 c.if-is_word-2.true)),
-      λ _. asked.1 c.if-is_word-2.true,
-    )
+pub returns-in-43 : goal.returns-in-43
+unfolding spelling is_joining is_letter is_digit
+returns-in-43 c =
+    let found = c.in_ok-get.ensures.lookup.3 in sign_at_byte Operator.Sum refl refl found.0 (found.1 0) c.in-43.is
 
-pub returns-then-is_word-3 : goal.returns-then-is_word-3
-unfolding spelling operator_number
-returns-then-is_word-3 c =
-    let asked = c.is_word-3.ensures in (
-      (λ shown w cut.
-          let told = asked.0 refl shown w cut in
-          (sign_is Operator.Product _ (sym told.0 ∙ c.if-is_word-3.true), λ _. told.1 c.if-is_word-3.true)),
-      λ _. asked.1 c.if-is_word-3.true,
-    )
+pub returns-in-45 : goal.returns-in-45
+unfolding spelling is_joining is_letter is_digit
+returns-in-45 c =
+    let found = c.in_ok-get.ensures.lookup.3 in sign_at_byte Operator.Difference refl refl found.0 (found.1 0) c.in-45.is
 
-pub returns-then-is_word-4 : goal.returns-then-is_word-4
-unfolding spelling operator_number
-returns-then-is_word-4 c =
-    let asked = c.is_word-4.ensures in (
-      (λ shown w cut.
-          let told = asked.0 refl shown w cut in
-          (sign_is Operator.Quotient _ (sym told.0 ∙ c.if-is_word-4.true), λ _. told.1 c.if-is_word-4.true)),
-      λ _. asked.1 c.if-is_word-4.true,
-    )
+pub returns-in-42 : goal.returns-in-42
+unfolding spelling is_joining is_letter is_digit
+returns-in-42 c =
+    let found = c.in_ok-get.ensures.lookup.3 in sign_at_byte Operator.Product refl refl found.0 (found.1 0) c.in-42.is
 
-pub returns-then-is_word-5 : goal.returns-then-is_word-5
-unfolding spelling operator_number
-returns-then-is_word-5 c =
-    let asked = c.is_word-5.ensures in (
-      (λ shown w cut.
-          let told = asked.0 refl shown w cut in
-          (sign_is Operator.Equal _ (sym told.0 ∙ c.if-is_word-5.true), λ _. told.1 c.if-is_word-5.true)),
-      λ _. asked.1 c.if-is_word-5.true,
-    )
+pub returns-in-47 : goal.returns-in-47
+unfolding spelling is_joining is_letter is_digit
+returns-in-47 c =
+    let found = c.in_ok-get.ensures.lookup.3 in sign_at_byte Operator.Quotient refl refl found.0 (found.1 0) c.in-47.is
 
-pub returns-then-is_word-6 : goal.returns-then-is_word-6
-unfolding spelling operator_number
-returns-then-is_word-6 c =
-    let asked = c.is_word-6.ensures in (
-      (λ shown w cut.
-          let told = asked.0 refl shown w cut in
-          (sign_is Operator.Less _ (sym told.0 ∙ c.if-is_word-6.true), λ _. told.1 c.if-is_word-6.true)),
-      λ _. asked.1 c.if-is_word-6.true,
-    )
+pub returns-in-61 : goal.returns-in-61
+unfolding spelling is_joining is_letter is_digit
+returns-in-61 c =
+    let found = c.in_ok-get.ensures.lookup.3 in sign_at_byte Operator.Equal refl refl found.0 (found.1 0) c.in-61.is
 
-pub returns : goal.returns
-unfolding spelling
-returns c = (
-  (λ shown w cut. (
-    no_sign _ (sym (c.is_word.ensures.0 refl shown w cut).0 ∙ c.if-is_word.false)
-        (sym (c.is_word-2.ensures.0 refl shown w cut).0 ∙ c.if-is_word-2.false)
-        (sym (c.is_word-3.ensures.0 refl shown w cut).0 ∙ c.if-is_word-3.false)
-        (sym (c.is_word-4.ensures.0 refl shown w cut).0 ∙ c.if-is_word-4.false)
-        (sym (c.is_word-5.ensures.0 refl shown w cut).0 ∙ c.if-is_word-5.false)
-        (sym (c.is_word-6.ensures.0 refl shown w cut).0 ∙ c.if-is_word-6.false),
-    λ some. absurd (some refl),
-  )),
-  λ some. absurd (some refl),
-)
+pub returns-in-60 : goal.returns-in-60
+unfolding spelling is_joining is_letter is_digit
+returns-in-60 c =
+    let found = c.in_ok-get.ensures.lookup.3 in sign_at_byte Operator.Less refl refl found.0 (found.1 0) c.in-60.is
+
+pub returns-in_default : goal.returns-in_default
+returns-in_default c =
+    sign_at_none
+    (λ h byte e.
+    let is = c.in_ok-get.ensures.lookup.3.1 0 in
+    ((λ q. omega arith), (λ q. omega arith), (λ q. omega arith), (λ q. omega arith), (λ q. omega arith), λ q. omega arith))

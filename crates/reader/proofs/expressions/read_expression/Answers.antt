@@ -1,37 +1,38 @@
 -- `reader::expressions::read_expression` meets its contract. Assumes nothing.
 use native.Mathlib.Omega.{arith}
-use Rattle.reader.proofs.TurnLaws.{at_first, went_further, went_on, went_wrong, went_over}
+use mathlib.Core.Bool.{true≢false}
+use mathlib.Core.Logic.{inl, inr}
+use mathlib.Core.Path.{sym, ◌∙◌}
+use Rattle.numbers.proofs.ErrLaws.{handed_on}
+use Rattle.reader.proofs.TurnLaws.{at_first, read_over}
 use Rattle.reader.proofs.expressions.read_expression.Goals as goal
 
-pub loop-next-init : goal.loop-next-init
-loop-next-init c =
-    at_first c.args.text.now c.args.from c.args.first c.args.rows.now c.args.held.now c.requires.0 c.requires.1
+pub loop-s-init : goal.loop-s-init
+loop-s-init c = at_first c.args.text.now c.args.from c.args.arrays.now.rows c.args.arrays.now.held c.requires
 
-pub loop-next-smaller : goal.loop-next-smaller
-loop-next-smaller c =
-    let args = c.args in
-    let further = went_further args.text.now c.loop-next.s c.loop-next.rows c.loop-next.held c.read_word-turn.result c.read_word-turn.new.rows
-    c.read_word-turn.new.held c.read_word-turn.ensures
-    c.in-Went.next c.in-Went.is in
-    omega arith
+pub read_word-requires : goal.read_word-requires
+read_word-requires c = (
+  c.loop-s.invariant.0,
+  λ whole. elim c.if-not-s.either [ inl inner ↦ inner.1 | inr begins ↦ absurd (true≢false (sym whole ∙ begins)) ],
+)
 
-pub loop-next-preserved : goal.loop-next-preserved
-loop-next-preserved c =
-    let args = c.args in
-    went_on args.text.now c.loop-next.s c.loop-next.rows c.loop-next.held c.read_word-turn.result c.read_word-turn.new.rows
-    c.read_word-turn.new.held c.read_word-turn.ensures
-    args.from args.first args.rows.now c.loop-next.invariant.1 c.in-Went.next c.in-Went.is
+pub returns-in_err-s : goal.returns-in_err-s
+returns-in_err-s c =
+    let faulty = c.in_err-s.ensures in
+    rw (handed_on _ c.from_residual.ensures.1, faulty.0)
+    (faulty.1 c.args.from.at c.args.from.count c.args.arrays.now.rows c.loop-s.invariant.1)
 
-pub returns-in-Over : goal.returns-in-Over
-returns-in-Over c =
-    let args = c.args in
-    went_over args.text.now c.loop-next.s c.loop-next.rows c.loop-next.held c.read_word-turn.result c.read_word-turn.new.rows
-    c.read_word-turn.new.held c.read_word-turn.ensures
-    args.from args.first args.rows.now c.loop-next.invariant.1 c.loop-next.invariant.0 c.in-Over.is
+pub loop-s-smaller : goal.loop-s-smaller
+loop-s-smaller c =
+    let went = c.in_ok-s.ensures in
+    omega (arith, went.0, went.1.inside)
 
-pub returns-in-Faulty : goal.returns-in-Faulty
-returns-in-Faulty c =
-    let args = c.args in
-    went_wrong args.text.now c.loop-next.s c.loop-next.rows c.loop-next.held c.read_word-turn.result c.read_word-turn.new.rows
-    c.read_word-turn.new.held c.read_word-turn.ensures
-    args.from args.first args.rows.now c.loop-next.invariant.1 c.in-Faulty.is
+pub loop-s-preserved : goal.loop-s-preserved
+loop-s-preserved c =
+    let went = c.in_ok-s.ensures in
+    (went.1, went.2 c.args.from.at c.args.from.count c.args.arrays.now.rows c.loop-s.invariant.1)
+
+pub returns : goal.returns
+returns c =
+    let inv = c.loop-s.invariant in
+    read_over inv.0 inv.1 c.if-not-s.false.0 c.if-not-s.false.1

@@ -4,8 +4,9 @@ use lib.ListN.{length}
 use Rattle.reader.specs.Frames.{Ready, Reached}
 use Rattle.reader.proofs.expressions.read_expression.Given as goal
 
-abbrev pub invariant-loop-next : goal.invariant-loop-next
-invariant-loop-next l = Ready l.text l.s l.rows l.held × Reached l.text l.from l.first l.initial.rows l.s l.rows l.held
+abbrev pub invariant-loop-s : goal.invariant-loop-s
+invariant-loop-s l =
+    Ready l.text l.s × Reached l.text l.fn.from.at l.fn.from.count l.initial.arrays.rows l.s l.arrays.rows l.arrays.held
 
-abbrev pub decreases-loop-next : goal.decreases-loop-next
-decreases-loop-next l = length l.text - l.s.at
+abbrev pub decreases-loop-s : goal.decreases-loop-s
+decreases-loop-s l = length l.text - l.s.at

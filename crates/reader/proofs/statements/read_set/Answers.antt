@@ -1,75 +1,54 @@
--- `reader::statements::read_set` meets its contract.
+-- `reader::statements::read_set` meets its contract. Assumes nothing.
 use native.Mathlib.Omega.{arith}
 use mathlib.Core.List.{[], ◌∷◌}
+use mathlib.Core.Path.{refl}
 use Rattle.rules.specs.declared.Operator.{Operator}
 use Rattle.language.specs.Tokens as word
 use Rattle.reader.specs.Machine.{expr, exactly}
+use Rattle.numbers.proofs.ErrLaws.{handed_on}
+use Rattle.reader.proofs.ErrLaws.{err_missing}
 use Rattle.reader.proofs.SpellLaws.{spells_equal}
 use Rattle.reader.proofs.PlaceLaws.{stuck_more, lacks_word}
 use Rattle.reader.proofs.NameLaws.{led_name, lacks_name}
-use Rattle.reader.proofs.StatementLaws.{asked_on, asked_after, stuck_set, stuck_name, stuck_exactly, set_read}
+use Rattle.reader.proofs.StatementLaws.{asked_after, stuck_set, stuck_name, stuck_exactly, set_read}
 use Rattle.reader.proofs.statements.read_set.Goals as goal
 
-pub read_expression-assigned-requires : goal.read_expression-assigned-requires
-read_expression-assigned-requires c =
-    let equal = rw c.in-Next.is at (c.expect-equal.ensures (word.sign Operator.Equal) spells_equal) in
-    (asked_after (asked_after c.requires.0 (led_name c.start_at-start.ensures c.variable_at-name.ensures c.in-Is.is)) equal, c.requires.1)
+pub returns-in_err-name : goal.returns-in_err-name
+returns-in_err-name c =
+    rw (err_missing _ _ c.from_residual.ensures.1 c.in_err-name.ensures.ok_part c.in_err-name.ensures.value)
+    (λ at w.
+    stuck_set w
+    (stuck_more (lacks_name c.start_at-start.ensures c.variable_at.ensures c.in_err-name.ensures.ok_part) (exactly (word.sign Operator.Equal) ∷ expr ∷ [])))
 
-pub overflow_sub-total : goal.overflow_sub-total
-overflow_sub-total c =
-    let e = rw c.in-Next-assigned.is at c.read_expression-assigned.ensures.0 in
-    omega (arith, e.counted)
+pub returns-in-Err : goal.returns-in-Err
+returns-in-Err c =
+    let named = led_name c.start_at-start.ensures c.variable_at.ensures c.in_ok-name.ensures.ok_part in
+    let m = c.in-Err.ensures (word.sign Operator.Equal) spells_equal in
+    λ at w. stuck_set w (stuck_name (exactly (word.sign Operator.Equal) ∷ expr ∷ []) named (stuck_more (lacks_word m.0) (expr ∷ [])))
 
-pub put_row-requires : goal.put_row-requires
-put_row-requires c =
-    let equal = rw c.in-Next.is at (c.expect-equal.ensures (word.sign Operator.Equal) spells_equal) in
-    let e = rw c.in-Next-assigned.is at c.read_expression-assigned.ensures.0 in
-    (asked_on (asked_after (asked_after c.requires.0 (led_name c.start_at-start.ensures c.variable_at-name.ensures c.in-Is.is)) equal) e).long
+pub read_expression-requires : goal.read_expression-requires
+read_expression-requires c =
+    let named = led_name c.start_at-start.ensures c.variable_at.ensures c.in_ok-name.ensures.ok_part in
+    let equal = c.in-Ok.ensures (word.sign Operator.Equal) spells_equal in
+    asked_after {next = record { at = c.in-Ok.at; count = c.args.from.count }}
+    (asked_after {next = record { at = c.in_ok-name.name.next; count = c.args.from.count }} c.requires refl named) refl equal
+
+pub returns-in_err-read : goal.returns-in_err-read
+returns-in_err-read c =
+    let named = led_name c.start_at-start.ensures c.variable_at.ensures c.in_ok-name.ensures.ok_part in
+    let equal = c.in-Ok.ensures (word.sign Operator.Equal) spells_equal in
+    rw (handed_on _ c.from_residual-in_err-read.ensures.1)
+    (λ at w. stuck_set w (stuck_name (exactly (word.sign Operator.Equal) ∷ expr ∷ []) named (stuck_exactly (expr ∷ []) equal c.in_err-read.ensures)))
 
 pub overflow_add-result : goal.overflow_add-result
 overflow_add-result c =
-    let equal = rw c.in-Next.is at (c.expect-equal.ensures (word.sign Operator.Equal) spells_equal) in
-    let e = rw c.in-Next-assigned.is at c.read_expression-assigned.ensures.0 in
-    let a = asked_on (asked_after (asked_after c.requires.0 (led_name c.start_at-start.ensures c.variable_at-name.ensures c.in-Is.is)) equal) e in
-    omega (arith, a.inside, a.short, a.few)
+    let named = led_name c.start_at-start.ensures c.variable_at.ensures c.in_ok-name.ensures.ok_part in
+    let equal = c.in-Ok.ensures (word.sign Operator.Equal) spells_equal in
+    let e = c.in_ok-read.ensures in
+    omega (arith, c.requires.few, c.requires.short, named.on, equal.on, e.few, e.inside)
 
-pub returns-in-Nothing : goal.returns-in-Nothing
-returns-in-Nothing c = (
-  (λ at w. (
-    stuck_set w
-        (stuck_more (lacks_name c.start_at-start.ensures c.variable_at-name.ensures c.in-Nothing.is)
-        (exactly (word.sign Operator.Equal) ∷ expr ∷ [])),
-    c.requires.0.long,
-  )),
-  c.requires.1,
-)
-
-pub returns-in-Missing : goal.returns-in-Missing
-returns-in-Missing c =
-    let m = rw c.in-Missing.is at (c.expect-equal.ensures (word.sign Operator.Equal) spells_equal) in (
-      (λ at w. (
-        stuck_set w (stuck_name (exactly (word.sign Operator.Equal) ∷ expr ∷ []) (led_name c.start_at-start.ensures c.variable_at-name.ensures c.in-Is.is) (stuck_more (lacks_word m.0) (expr ∷ []))),
-        c.requires.0.long,
-      )),
-      c.requires.1,
-    )
-
-pub returns-in-Faulty : goal.returns-in-Faulty
-returns-in-Faulty c =
-    let equal = rw c.in-Next.is at (c.expect-equal.ensures (word.sign Operator.Equal) spells_equal) in
-    let s = rw c.in-Faulty.is at c.read_expression-assigned.ensures.0 in (
-      (λ at w. (
-        stuck_set w
-            (stuck_name (exactly (word.sign Operator.Equal) ∷ expr ∷ []) (led_name c.start_at-start.ensures c.variable_at-name.ensures c.in-Is.is) (stuck_exactly (expr ∷ []) equal s.0)),
-        s.1,
-      )),
-      c.read_expression-assigned.ensures.1,
-    )
-
-pub returns-in-Next-assigned : goal.returns-in-Next-assigned
-returns-in-Next-assigned c =
-    let equal = rw c.in-Next.is at (c.expect-equal.ensures (word.sign Operator.Equal) spells_equal) in
-    let e = rw c.in-Next-assigned.is at c.read_expression-assigned.ensures.0 in (
-      (λ at w. set_read w (led_name c.start_at-start.ensures c.variable_at-name.ensures c.in-Is.is) equal e c.put_row.ensures),
-      c.read_expression-assigned.ensures.1,
-    )
+pub returns : goal.returns
+returns c =
+    let named = led_name c.start_at-start.ensures c.variable_at.ensures c.in_ok-name.ensures.ok_part in
+    let equal = c.in-Ok.ensures (word.sign Operator.Equal) spells_equal in
+    λ at w. set_read w named equal c.in_ok-read.ensures c.put_row.ensures

@@ -13,6 +13,6 @@ pub returns-then-is_word : goal.returns-then-is_word
 returns-then-is_word c =
     λ t k. led_start c.start_at-start.ensures k c.is_word.ensures.0 c.if-is_word.true
 
-pub returns : goal.returns
-returns c =
+pub returns-else-is_word : goal.returns-else-is_word
+returns-else-is_word c =
     λ t k. (missing_start c.start_at-start.ensures k c.is_word.ensures.0 c.if-is_word.false, c.start_at-start.ensures)

@@ -9,6 +9,7 @@ use Rattle.language.specs.Tokens.{same}
 use Rattle.spans.specs.Cut.{part}
 use Rattle.reader.proofs.StartLaws.{word_short, word_other, word_goes_on, word_single}
 use Rattle.reader.proofs.words.is_word.Goals as goal
+use Rattle.reader.proofs.words.is_word.Goals.{then-is_joined, else-is_joined}
 
 -- the key stands there
 is_whole :
@@ -29,20 +30,22 @@ returns-then-not-is_key c =
       λ e. absurd (true≢false (sym e)),
     )
 
-pub returns-then-is_joined : goal.returns-then-is_joined
-returns-then-is_joined c =
-    let whole = is_whole c.args.text.now c.args.key.now c.args.at c.is_key.ensures c.if-not-is_key.false c.if-text-at.false c.requires in (
-      (λ one shown w cut.
-          word_goes_on c.args.key.now one shown cut c.is_joined-then-is_joined.result (sym c.is_joined-then-is_joined.ensures) whole.1 whole.0
-          (sym c.is_joined.ensures ∙ c.if-is_joined.true)),
-      λ _. whole.1,
-    )
-
 pub returns : goal.returns
 returns c =
-    let whole = is_whole c.args.text.now c.args.key.now c.args.at c.is_key.ensures c.if-not-is_key.false c.if-text-at.false c.requires in (
-      (λ one shown w cut.
-          let single = word_single c.args.key.now one shown cut whole.1 whole.0 (sym c.is_joined.ensures ∙ c.if-is_joined.false) in
-          (single.0, λ _. single.1)),
-      λ _. whole.1,
-    )
+    let whole = is_whole c.args.text.now c.args.key.now c.args.at c.is_key.ensures c.if-not-is_key.false c.if-text-at.false c.requires in
+    elim c.if-is_joined.branch [
+      | then-is_joined w ↦
+          rw w.result-is (
+            (λ one shown s cut.
+                word_goes_on c.args.key.now one shown cut w.is_joined-then-is_joined.result (sym w.is_joined-then-is_joined.ensures) whole.1 whole.0
+                (sym c.is_joined.ensures ∙ w.if-is_joined.true)),
+            λ _. whole.1,
+          )
+      | else-is_joined w ↦
+          rw (w.result-is, w.if-is_joined.false) (
+            (λ one shown s cut.
+                let single = word_single c.args.key.now one shown cut whole.1 whole.0 (sym c.is_joined.ensures ∙ w.if-is_joined.false) in
+                (single.0, λ _. single.1)),
+            λ _. whole.1,
+          )
+    ]

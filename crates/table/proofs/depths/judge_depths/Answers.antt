@@ -5,10 +5,10 @@ use mathlib.Core.List.{List}
 use mathlib.Core.Path.{◌≡◌, sym, ap, ◌∙◌}
 use lib.ListN.{length, get_or}
 use Rattle.rules.specs.declared.Depth.{Depth}
-use Rattle.rules.specs.declared.Judged.{Judged}
+use Rattle.rules.specs.Judged.{Judged}
 use Rattle.rules.specs.declared.Row.{Row}
 use Rattle.rules.specs.Limits.{most_rows}
-use Rattle.rules.specs.Rows.{rows_of, row_at}
+use Rattle.rules.specs.Rows.{row_at}
 use Rattle.rules.specs.Judging.{lowest}
 use Rattle.rules.specs.OnePass.{depth_at, depth_by, over_limits}
 use Rattle.rules.proofs.JudgeLaws.{lowest_step, lowest_found, lowest_end, fitting_rows}
@@ -29,11 +29,8 @@ next_depth rows {depths} {i = i} counted accepted kept more read hp hq hr known 
 
 pub loop-i-init : goal.loop-i-init
 loop-i-init c =
-    let e : c.args.rows - 0 ≡ length (rows_of c.args.table.now) = omega (arith, c.requires.counted.1) in
-    (omega arith, ap (lowest 5 _ 0) e, kept_none (rows_of c.args.table.now))
-
-pub read_row-row-requires : goal.read_row-row-requires
-read_row-row-requires c = omega (arith, c.requires.counted.1)
+    let e : (length c.args.table.now) - 0 ≡ length c.args.table.now = omega (arith, c.rows-i-end.ensures.counted) in
+    (omega arith, ap (lowest 5 _ 0) e, kept_none c.args.table.now)
 
 pub offset_bounds-depths-place : goal.offset_bounds-depths-place
 offset_bounds-depths-place c = omega (arith, c.place.ensures)
@@ -61,42 +58,36 @@ depth_by-depth-requires c =
 pub returns-then-over_limits : goal.returns-then-over_limits
 returns-then-over_limits c =
     let found =
-    next_depth (rows_of c.args.table.now) c.requires.counted c.requires.accepted c.loop-i.invariant.2 c.loop-i-test.true
-    c.read_row-row.ensures c.place.ensures c.place-in-loop-i.ensures c.place-in-loop-i-2.ensures c.depth_by-depth.ensures in
-    lowest_found 5 _ c.loop-i.i c.args.rows c.loop-i-test.true
+    next_depth c.args.table.now (c.rows-i-end.ensures.few, c.rows-i-end.ensures.counted) c.requires c.loop-i.invariant.2 c.loop-i-test.true
+    c.row-row.ensures c.place.ensures c.place-in-loop-i.ensures c.place-in-loop-i-2.ensures c.depth_by-depth.ensures in
+    lowest_found 5 _ c.loop-i.i (length c.args.table.now) (omega (arith, c.loop-i-test.true, c.rows-i-end.ensures.counted))
     (too_deep_law _ _ ∙ ap over_limits (sym found) ∙ sym c.over_limits.ensures ∙ c.if-over_limits.true) c.loop-i.invariant.1
 
-pub overflow_cast-at : goal.overflow_cast-at
-overflow_cast-at c = omega (arith, c.loop-i-test.true, c.requires.counted.0)
+pub overflow_cast-depths : goal.overflow_cast-depths
+overflow_cast-depths c = omega (arith, c.loop-i-test.true, c.rows-i-end.ensures.few)
 
-pub offset_bounds-depths-at : goal.offset_bounds-depths-at
-offset_bounds-depths-at c = omega (arith, c.loop-i-test.true, c.requires.counted.0)
+pub offset_bounds-depths-i : goal.offset_bounds-depths-i
+offset_bounds-depths-i c = omega (arith, c.loop-i-test.true, c.rows-i-end.ensures.few)
 
-pub bounds-depths-at : goal.bounds-depths-at
-bounds-depths-at c = omega (arith, c.loop-i-test.true, c.requires.counted.0)
-
-pub overflow_add-i : goal.overflow_add-i
-overflow_add-i c = omega (arith, c.loop-i-test.true, c.requires.counted.0)
-
-pub loop-i-smaller : goal.loop-i-smaller
-loop-i-smaller c = omega (arith, c.loop-i-test.true)
+pub bounds-depths-i : goal.bounds-depths-i
+bounds-depths-i c = omega (arith, c.loop-i-test.true, c.rows-i-end.ensures.few)
 
 pub loop-i-preserved : goal.loop-i-preserved
 loop-i-preserved c =
-    let rows = rows_of c.args.table.now in
+    let rows = c.args.table.now in
     let found : c.depth_by-depth.result ≡ depth_at rows c.loop-i.i =
     c.depth_by-depth.ensures
-    ∙ kept_depth rows c.loop-i.depths c.loop-i.i c.read_row-row.result _ _ _
-    (fitting_rows rows c.requires.accepted.0 c.requires.accepted.1) c.loop-i.invariant.2
-    (omega (arith, c.loop-i-test.true, c.requires.counted.1)) (omega (arith, c.loop-i-test.true, c.requires.counted.0))
-    c.read_row-row.ensures c.place.ensures c.place-in-loop-i.ensures c.place-in-loop-i-2.ensures in (
+    ∙ kept_depth rows c.loop-i.depths c.loop-i.i c.row-row.result _ _ _
+    (fitting_rows rows c.requires.0 c.requires.1) c.loop-i.invariant.2
+    (omega (arith, c.loop-i-test.true, c.rows-i-end.ensures.counted)) (omega (arith, c.loop-i-test.true, c.rows-i-end.ensures.few))
+    c.row-row.ensures c.place.ensures c.place-in-loop-i.ensures c.place-in-loop-i-2.ensures in (
       omega (arith, c.loop-i-test.true),
-      lowest_step 5 _ c.loop-i.i c.args.rows c.loop-i-test.true
+      lowest_step 5 _ c.loop-i.i (length c.args.table.now) (omega (arith, c.loop-i-test.true, c.rows-i-end.ensures.counted))
           (too_deep_law _ _ ∙ ap over_limits (sym found) ∙ sym c.over_limits.ensures ∙ c.if-over_limits.false) c.loop-i.invariant.1,
-      kept_more _ _ _ _ c.loop-i.invariant.2 (omega (arith, c.loop-i-test.true, c.requires.counted.0)) found
+      kept_more _ _ _ _ c.loop-i.invariant.2 (omega (arith, c.loop-i-test.true, c.rows-i-end.ensures.few)) found
           (within_limits _ (sym c.over_limits.ensures ∙ c.if-over_limits.false)),
     )
 
 pub returns : goal.returns
 returns c =
-    lowest_end 5 _ c.loop-i.i c.args.rows (omega arith) c.loop-i.invariant.1
+    lowest_end 5 _ c.loop-i.i (length c.args.table.now) (omega arith) c.loop-i.invariant.1

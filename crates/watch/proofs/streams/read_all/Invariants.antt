@@ -1,9 +1,0 @@
--- `watch::streams::read_all` meets its contract. What was read is within the buffer; the measure is what is left of it.
-use Rattle.std.proofs.Common.{length, ◌-◌, ◌≤◌}
-use Rattle.watch.proofs.streams.read_all.Given as goal
-
-abbrev pub invariant-loop-done : goal.invariant-loop-done
-invariant-loop-done g l = l.done ≤ length l.buf
-
-abbrev pub decreases-loop-done : goal.decreases-loop-done
-decreases-loop-done g l = length l.initial.buf - l.done
