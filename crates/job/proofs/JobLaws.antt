@@ -176,3 +176,20 @@ reading_back (Err refusal) = ap (λ (fault : Fault). Err (record { fault = fault
 
 pub reading_unique : (a b : Result Job Refusal) → said_of_reading a ≡ said_of_reading b → a ≡ b
 reading_unique a b e = sym (reading_back a) ∙ ap reading_from e ∙ reading_back b
+
+-- what was read, with these words for those of memory and table
+abbrev pub read_with : List ℕ → List ℕ → Result Job Refusal → Result Job Refusal
+read_with memory table (Ok read) = Ok (record read { memory = record { words = memory }; table = table })
+read_with memory table (Err refusal) = Err refusal
+
+read_back : (memory table : List ℕ) (a : Result Job Refusal) → read_from (said_of_reading a).said memory table ≡ read_with memory table a
+unfolding read_from
+read_back memory table (Ok read) = refl
+read_back memory table (Err refusal) = ap (λ (fault : Fault). Err (record { fault = fault; line = refusal.line })) (fault_back refusal.fault)
+
+-- what is said alone, without memory and table, decides all else that was read
+pub read_unique :
+    (memory table : List ℕ) (a b : Result Job Refusal) → (said_of_reading a).said ≡ (said_of_reading b).said
+    → read_with memory table a ≡ read_with memory table b
+read_unique memory table a b e =
+    sym (read_back memory table a) ∙ ap (λ (s : ReadSaid). read_from s memory table) e ∙ read_back memory table b

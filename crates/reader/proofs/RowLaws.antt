@@ -40,6 +40,11 @@ row_put_length row quad table = by (ltb row most_rows)
 
 -- ---- many rows
 
+pub rows_put_length : (row : ℕ) (quads : List Quad) (table : List ℕ) → length (rows_put row quads table) ≡ length table
+unfolding rows_put
+rows_put_length row [] table = refl
+rows_put_length row (quad ∷ quads) table = rows_put_length (row + 1) quads (row_put row quad table) ∙ row_put_length row quad table
+
 pub rows_put_append : (row : ℕ) (a b : List Quad) (table : List ℕ) → rows_put row (a ++ b) table ≡ rows_put (row + length a) b (rows_put row a table)
 unfolding rows_put
 rows_put_append row [] b table =

@@ -10,9 +10,11 @@ use denote.Enum.Declared.{tag_of}
 use types.Run.{OneOf, miss}
 use lib.ListN.{length, get_or, drop}
 use Rattle.rules.specs.declared.Kind.{Kind}
+use Rattle.rules.specs.declared.Role.{Role}
 use Rattle.rules.specs.declared.Row.{Row}
 use Rattle.rules.specs.Rows.{kind_of, is_statement, is_expression, is_unknown, row_of, rows_of, absent, row_at}
 use Rattle.rules.specs.contracts.Kind as kind-type
+use Rattle.rules.specs.contracts.Role as role-type
 use Rattle.rules.proofs.JudgeLaws.{row_law, row_absent, rows_length}
 
 -- ---- the arms of a match: what holds at each of an arm's places of an enum holds of a value at one of them
@@ -50,6 +52,25 @@ pub kind_arm :
     → OneOf ks (tag_of kind-type.the_type kind) → f kind ≡ a
 kind_arm {A} {f} {a} {ks} arm kind among =
     sym (ap f (kind_place kind)) ∙ at_key (λ n. f (kind_at n)) a ks (tag_of kind-type.the_type kind) arm.each among
+
+abbrev pub role_at : ℕ → Role
+role_at n =
+    get_or (Role.Unnamed ∷ Role.Variable ∷ Role.Statement ∷ Role.Expression ∷ Role.Value ∷ Role.Channel ∷ []) n Role.Operator
+
+role_place : (role : Role) → role_at (tag_of role-type.the_type role) ≡ role
+role_place Role.Unnamed = refl
+role_place Role.Variable = refl
+role_place Role.Statement = refl
+role_place Role.Expression = refl
+role_place Role.Value = refl
+role_place Role.Channel = refl
+role_place Role.Operator = refl
+
+pub role_arm :
+    {A : Type 0} {f : Role → A} {a : A} {ks : List ℕ} → Arm role_at f a ks → (role : Role)
+    → OneOf ks (tag_of role-type.the_type role) → f role ≡ a
+role_arm {A} {f} {a} {ks} arm role among =
+    sym (ap f (role_place role)) ∙ at_key (λ n. f (role_at n)) a ks (tag_of role-type.the_type role) arm.each among
 
 -- ---- a row read word by word
 

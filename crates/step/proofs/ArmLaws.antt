@@ -12,6 +12,7 @@ use lib.ListN.{length, get_or, set, length-set}
 use lib.Seq.{get_or-set_same, get_or-set_other}
 use Rattle.rules.specs.declared.Kind.{Kind}
 use Rattle.rules.specs.declared.Row.{Row}
+use Rattle.rules.specs.Limits.{most_nesting}
 use Rattle.rules.specs.Marks.{put, union, provisional}
 use Rattle.rules.specs.Answers.{terms_of}
 use Rattle.rules.specs.Rows.{is_statement, row_at}
@@ -20,14 +21,23 @@ use Rattle.rules.specs.Values.{value, holds, level}
 use Rattle.rules.specs.Running.{Item, statement, close, state, context, Attempt, denied, roomless}
 use Rattle.rules.specs.Bounds.{need, most_pending, Bounds}
 use Rattle.rules.proofs.MarkLaws.{none_zero}
-use Rattle.rules.proofs.BoundLaws.{need_pos}
+use Rattle.rules.proofs.BoundLaws.{need_pos, few_pending, few_closes}
 use Rattle.rules.proofs.StatementLaws.{Below, is_skip, is_assign, is_if, is_while, is_output}
 use Rattle.step.specs.declared.Halt.{Halt}
 use Rattle.step.specs.declared.Machine.{Machine}
 use Rattle.step.specs.Denoted.{items_of, sets_of, log_of, Held, Arrays, arrays, arrays_of, held_of, Entry, Entries, Holds}
 use Rattle.step.specs.Turns.{Turn, Went, Stopped, NoRoom, turn_of, Says, Goes, Stays, Ready, Statement, Opened, Branched, Looped, Apart, Found, denies, passed, closed_held, Passed, assigned_words, assigned_held, CanAssign, CanBranch, CanLoop, CanPutOut, PutOut, Applied, Turned}
-use Rattle.step.proofs.ArrayLaws.{item_statement, items_pop, items_same, entries_top, entries_same, context_law}
+use Rattle.step.proofs.ArrayLaws.{items_length, sets_length, item_statement, items_pop, items_same, entries_top, entries_same, context_law}
 use Rattle.step.proofs.StepLaws.{close_law, close_empty_law, entry_of, pile_room, pending_room, skip_law, assign_law, then_law, else_law, turn_law, leave_law, denied_law, roomless_law, record_law}
+
+-- Whoever has the arrays of a state can build the machine that holds it: what is held is within both stacks.
+module _ (rows : List Row) (w e p t : List ℕ) (h : Held) (at : Holds rows (arrays w e p t) h) where
+  pub few_entries : h.pending ≤ most_pending
+  few_entries = omega (arith, few_pending (items_of rows e h.pending) at.bounds.roomy, items_length rows e h.pending)
+
+  pub few_sets : h.pile ≤ most_nesting
+  few_sets =
+      omega (arith, few_closes (items_of rows e h.pending) at.bounds.roomy, at.bounds.pile, sets_length p h.pile)
 
 -- the arrays are as they were
 same_arrays : (s s' : Machine) (t : List ℕ) (h' : Held) → Passed s s' h' → ◌≡◌ {A = Arrays} (arrays_of s' t) (arrays_of s t)

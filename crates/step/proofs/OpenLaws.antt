@@ -5,17 +5,34 @@ use mathlib.Core.List.{List}
 use mathlib.Core.Path.{◌≡◌, refl, sym, ap, ap₂, ◌∙◌}
 use mathlib.Core.HLevel.{is_prop→PathP}
 use lib.ListN.{length}
+use Rattle.std.specs.Prelude.{Result, Ok, Err}
 use Rattle.rules.specs.declared.Row.{Row}
 use Rattle.rules.specs.Running.{Record, State, Attempt, finished, denied, roomless, taken}
 use Rattle.rules.specs.Answers.{trace_after}
 use Rattle.rules.specs.Limits.{most_nesting}
 use Rattle.rules.specs.Bounds.{most_pending}
 use Rattle.std.proofs.Math.Bridge.{le_prop}
+use Rattle.step.specs.declared.Halt.{Halt}
 use Rattle.step.specs.declared.Machine.{Machine}
 use Rattle.step.specs.Denoted.{records_of, Held, Arrays, state_of}
-use Rattle.step.specs.Turns.{Went, Stopped, NoRoom, Goes}
+use Rattle.step.specs.Turns.{Turn, Went, Stopped, NoRoom, turn_of, Goes}
 use Rattle.step.specs.Open.{SameTurn, TurnIsDecided}
 use Rattle.step.proofs.ArrayLaws.{items_length, sets_length, records_length, trace_law}
+
+-- two results of which the same is said are the same, whatever is held after each
+turn_back : Turn → Result (Unit {0}) Halt
+turn_back (Went h) = Ok tt
+turn_back (Stopped row because) = Err (Halt.Stopped row because)
+turn_back (NoRoom row) = Err (Halt.NoRoom row)
+
+turn_back_lem : (result : Result (Unit {0}) Halt) (h : Held) → turn_back (turn_of result h) ≡ result
+unfolding turn_back
+turn_back_lem (Ok done) h = refl
+turn_back_lem (Err (Halt.Stopped row because)) h = refl
+turn_back_lem (Err (Halt.NoRoom row)) h = refl
+
+pub turn_unique : (a b : Result (Unit {0}) Halt) (h h' : Held) → turn_of a h ≡ turn_of b h' → a ≡ b
+turn_unique a b h h' e = sym (turn_back_lem a h) ∙ ap turn_back e ∙ turn_back_lem b h'
 
 -- an attempt's state, its row and its set: what two equal attempts have in common
 abbrev state_in : State → Attempt → State

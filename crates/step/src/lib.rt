@@ -68,7 +68,7 @@ impl From<Halt> for Ended {
 
 // The state of a run: memory's words and marks, the pending items, the pile of sets, and how many records stand in the trace.
 // Stays: that the table's rows are sound is a part of `Holds`, of which `TurnIsDecided` and `GoesOnAgain` speak, so the table is words.
-#[derive(Drop)]
+#[derive(Clone, Copy)]
 pub struct Machine {
     pub words: [u32; VARIABLES],
     pub marks: Marks,

@@ -1,6 +1,8 @@
 // A stack in fixed memory.
 ghost use Rattle.std.specs.Prelude.{◌≡◌, ◌+◌, ◌-◌, ◌<◌, ◌≤◌, nat_eq, replicate, slice_get, slice_set, Some};
 
+use std::alloc::AllocError;
+
 // A stack of at most N items: the first `len` of the array, the last of them on top.
 #[derive(Drop)]
 pub struct Stack<T, const N: usize> {
@@ -8,6 +10,20 @@ pub struct Stack<T, const N: usize> {
     pub len: usize,
     ghost within: { len ≤ N },
 }
+
+impl<T: Copy, const N: usize> Clone for Stack<T, N> {
+    ghost use Rattle.std.specs.Prelude.{◌≡◌, ⊤};
+
+    ghost is_clone = { λ x y. y ≡ x };
+
+    ghost is_infallible = { λ _. ⊤ };
+
+    fn clone(&self) -> Result<Self, AllocError> {
+        Ok(*self)
+    }
+}
+
+impl<T: Copy, const N: usize> Copy for Stack<T, N> {}
 
 impl<T: Copy, const N: usize> Stack<T, N> {
     // The empty stack, its array filled with an item.
