@@ -49,12 +49,6 @@ pub puts_as : {w₀ w₁ : Writer} {most more : ℕ} {xs ys : List ℕ} → xs �
 puts_as {w₀} {w₁} {most} {more} {xs} {ys} e n p =
     subst (λ (k : ℕ). Puts w₀ w₁ ys k) n (subst (λ (bytes : List ℕ). Puts w₀ w₁ bytes most) e p)
 
--- bytes that are no more than most
-pub puts_within : {w₀ w₁ : Writer} {most more : ℕ} {xs ys : List ℕ} → xs ≡ ys → length ys ≤ more → Puts w₀ w₁ xs most → Puts w₀ w₁ ys more
-puts_within {w₀} {w₁} {most} e few p =
-    let q = subst (λ (bytes : List ℕ). Puts w₀ w₁ bytes most) e p in
-    record { placed = record { place = q.placed.place; few = few; kept = q.placed.kept }; long = q.long; same = q.same }
-
 -- bytes that were copied over a part of the buffer
 pub placed_copy : (out bytes : List ℕ) (at : ℕ) → at + length bytes ≤ length out
     → Placed out at bytes (length bytes) (at + length bytes) (put_mid at (length bytes) out bytes)
@@ -69,16 +63,31 @@ placed_copy out bytes at h = record {
 
 -- ---- the digits of a number
 
+pub placed_small : (out : List ℕ) (at n : ℕ) → n < 10 → Placed out at (decimal n) most_digits (at + 1) (set out at (zero_byte + n))
+placed_small out at n h =
+    let e = decimal_small n h in
+    record {
+      place = omega (arith, ap length e);
+      few = omega (arith, ap length e);
+      kept = sym (ap (sets out at) e);
+    }
+
+pub placed_more : (out : List ℕ) (at n last : ℕ) (left : List ℕ) → 10 ≤ n → n < 2 ^ 32
+    → Placed out at (decimal (n / 10)) most_digits last left
+    → Placed out at (decimal n) most_digits (last + 1) (set left last (zero_byte + n % 10))
+placed_more out at n last left h small p =
+    let e = decimal_more n h in
+    let k = length-append (decimal (n / 10)) ((zero_byte + n % 10) ∷ []) in
+    record {
+      place = omega (arith, ap length e, p.place, k);
+      few = decimal_few n small;
+      kept =
+          ap₂ (λ (o : List ℕ) (i : ℕ). set o i (zero_byte + n % 10)) p.kept p.place
+          ∙ sets_append out at (decimal (n / 10)) ((zero_byte + n % 10) ∷ [])
+          ∙ sym (ap (sets out at) e);
+    }
+
 -- the place of the last digit
 pub digits_room : (n : ℕ) → 10 ≤ n → n < 2 ^ 32 → length (decimal (n / 10)) < most_digits
 digits_room n h small =
     omega (arith, ap length (decimal_more n h), decimal_few n small, length-append (decimal (n / 10)) ((zero_byte + n % 10) ∷ []))
-
-pub puts_small : {w₀ w₁ : Writer} (n : ℕ) → n < 10 → Puts w₀ w₁ ((zero_byte + n % 10) ∷ []) 1 → Puts w₀ w₁ (decimal n) most_digits
-puts_small n h p =
-    puts_within (ap (λ (d : ℕ). (zero_byte + d) ∷ []) (omega arith) ∙ sym (decimal_small n h)) (decimal_few n (omega arith)) p
-
-pub puts_more : {w₀ w₁ w₂ : Writer} (n : ℕ) → 10 ≤ n → n < 2 ^ 32 → Puts w₀ w₁ (decimal (n / 10)) most_digits
-    → Puts w₁ w₂ ((zero_byte + n % 10) ∷ []) 1 → Puts w₀ w₂ (decimal n) most_digits
-puts_more n h small p q =
-    puts_within (sym (decimal_more n h)) (decimal_few n small) (puts_then (decimal (n / 10)) ((zero_byte + n % 10) ∷ []) p q)

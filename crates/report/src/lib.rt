@@ -3,8 +3,10 @@
 
 ghost use Rattle.std.specs.Prelude.{◌≡◌, ◌+◌, ◌-◌, ◌*◌, ◌≤◌, ◌<◌, length, drop, replicate};
 ghost use Rattle.rules.specs.Limits.{width, record_words};
+ghost use Rattle.lines.specs.Limits.{most_digits};
+ghost use Rattle.lines.specs.Numbers.{decimal};
 ghost use Rattle.report.specs.Reports.{run_text};
-ghost use Rattle.report.specs.Written.{most_run, said_of_wrote, refusal_written, whole_of, run_written, report_written};
+ghost use Rattle.report.specs.Written.{Placed, most_run, said_of_wrote, refusal_written, whole_of, run_written, report_written};
 
 use rules::{Answer, Ended, Marks, VARIABLES};
 
@@ -32,6 +34,22 @@ struct Verdict {
     number: u32,
     place: u32,
     because: Marks,
+}
+
+// Puts the digits of a number at a place, and answers the place after them. It calls itself, so it isn't inlined: a writer that was
+// lent to it would stay in memory, and each byte that is put would load the place from there and store it.
+// Stays: no clause of std's formatting says that writing a number succeeds, nor which bytes it leaves in a lent slice.
+fn put_digits(out: &mut [u8], at: usize, n: u32) -> usize
+    requires { at + most_digits ≤ length out.old }
+    ensures { Placed out.old at (decimal n) most_digits result out.new }
+{
+    if n < 10 {
+        out[at] = b'0' + n as u8;
+        return at + 1;
+    }
+    let last = put_digits(out, at, n / 10);
+    out[last] = b'0' + (n % 10) as u8;
+    last + 1
 }
 
 // A buffer that a report is put into, and the place after what has been put.
@@ -62,15 +80,11 @@ impl Writer<'_> {
     }
 
     // Puts the digits of a number.
-    // Stays: no clause of std's formatting says that writing a number succeeds, nor which bytes it leaves in a lent slice.
     fn number(&mut self, n: u32)
         requires { HasRoom self.old most_digits }
         ensures { Puts self.old self.new (decimal n) most_digits }
     {
-        if 10 <= n {
-            self.number(n / 10);
-        }
-        self.bytes(&[b'0' + (n % 10) as u8]);
+        self.at = put_digits(self.out, self.at, n);
     }
 
     // Puts a key and a number after it.
