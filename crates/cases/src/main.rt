@@ -198,6 +198,8 @@ fn write_assigned(rt: &impl Print, table: &[u32], row: u32) -> io::Result<()> {
 // A case of the run, after its words: memory, marks, budget, trace word count, trace words. It is answered by what the run answers and
 // leaves in the trace.
 fn answer_run(rt: &impl Print, input: &mut Input<'_>, table: &[u32]) -> io::Result<()> {
+    // Made before anything is read: further down it would be cleared twice.
+    let mut words = [0u32; MOST_TRACE_WORDS];
     let memory = input.memory();
     let marks = input.number();
     let budget = input.number();
@@ -206,7 +208,6 @@ fn answer_run(rt: &impl Print, input: &mut Input<'_>, table: &[u32]) -> io::Resu
         input.end();
         return Ok(());
     }
-    let mut words = [0u32; MOST_TRACE_WORDS];
     let trace = &mut words[..count];
     input.fill(trace);
     write_answer(rt, monitor::run(table, memory, marks, budget, trace))?;

@@ -83,6 +83,8 @@ fn after_key(text: &[u8], at: usize, key: &[u8]) -> Option<usize>
 }
 
 // The number after a key that stands at a place.
+// Always inlined, since a row's line asks for it four times, and a key that is known there is compared at once.
+#[inline(always)]
 fn read_field(text: &[u8], at: usize, key: &[u8]) -> Result<Parsed<u64>, Fault>
     requires { 0 < length key.now }
     ensures { MatchResult result

@@ -25,13 +25,13 @@ fn grown(value: u64, byte: u8) -> u64
     (value * 10 + u64::from(byte - b'0')).min(MOST_WORD + 1)
 }
 
-// The number whose digits start at a place.
-fn digits_on(text: &[u8], at: usize) -> Parsed<u64>
-    requires { at ≤ length text.now }
-    ensures { (field_said text.now (Some result) ≡ digits_on (drop at text.now) 0)
+// The number whose first digits came to `first` and whose other digits start at a place.
+fn digits_on(text: &[u8], at: usize, first: u64) -> Parsed<u64>
+    requires { (first ≤ beyond) × (at ≤ length text.now) }
+    ensures { (field_said text.now (Some result) ≡ digits_on (drop at text.now) first)
         × (result.next ≤ length text.now) }
 {
-    let mut value = 0;
+    let mut value = first;
     for next in at..text.len() {
         let byte = text[next];
         if !byte.is_ascii_digit() {
@@ -55,7 +55,7 @@ pub fn number_at(text: &[u8], at: usize) -> Option<Parsed<u64>>
             value: 0,
             next: at + 1,
         }),
-        b'1'..=b'9' => Some(digits_on(text, at)),
+        byte @ b'1'..=b'9' => Some(digits_on(text, at + 1, grown(0, *byte))),
         _ => None,
     }
 }
