@@ -1,5 +1,5 @@
 -- The rows that are pending in a walk: what they come to, one after another, and how many parts they have.
-use Rattle.std.proofs.Common.{◌≡◌, ℕ, ◌+◌, ◌≤◌, ◌<◌, min, Bool, List, [], ◌∷◌, ◌++◌, length, drop, Option, None, Some, refl, sym, ap, ap₂, ◌∙◌, append_assoc, arith, length-append}
+use Rattle.std.proofs.Common.{◌≡◌, ℕ, ◌+◌, ◌≤◌, ◌<◌, min, Bool, List, [], ◌∷◌, ◌++◌, length, drop, Option, None, Some, refl, sym, ap, ap₂, ◌∙◌, append_assoc, arith, length-append, length-take}
 use Rattle.std.proofs.lemmas.List.{append-nil}
 use Rattle.rules.specs.declared.Kind.{Kind}
 use Rattle.rules.specs.declared.Row.{Row}
@@ -10,7 +10,9 @@ use Rattle.rules.specs.Sound.{Sound}
 use Rattle.rules.specs.LevelCheck.{Walked, walk}
 use Rattle.rules.proofs.StatementLaws.{Below, is_sequence}
 use Rattle.levels.specs.declared.walk.Found.{Found}
+use Rattle.levels.specs.declared.pending.Pending.{Pending}
 use Rattle.levels.specs.Found.{lower_of, lowest_in, found_of}
+use Rattle.levels.specs.Pending.{rows_in}
 use Rattle.levels.proofs.FoundLaws.{pair, lowest_append}
 
 -- ---- lists by their last element
@@ -262,13 +264,32 @@ module _
             weights_last rows top.front top.last,
           )
 
--- ---- what a part leaves pending
+-- ---- the rows that are pending in an array
 
-module _ {before after : List ℕ} (kept : after ≡ before) where
-  -- it is longer than it was at the base
-  pub more_pending : (base : List ℕ) {n m : ℕ} → (n ≡ m → ⊥) → n ≡ length after → m ≡ length base → length before ≡ length base → ⊥
-  more_pending base other here there e = other (omega (arith, here, there, e, ap length kept))
+-- so many there are
+pub sized : (p : Pending) → length p.rows.now ≡ most_rows → length (rows_in p) ≡ min p.len most_rows
+sized p long = length-take p.len p.rows.now ∙ ap (min p.len) long
 
-  -- what was popped is the last that was pending
-  pub popped_is : (left : List ℕ) {x y : ℕ} → after ≡ left ++ x ∷ [] → y ≡ x → before ≡ left ++ y ∷ []
-  popped_is left popped same = sym kept ∙ popped ∙ ap (λ (n : ℕ). left ++ n ∷ []) (sym same)
+-- what is pending in a walk, and where it began, in the same array
+pub record Lent (p base : Pending) : Type 0 where
+  pub long : length p.rows.now ≡ most_rows
+  pub below : length base.rows.now ≡ most_rows
+  pub same : p.rows.ghost_name ≡ base.rows.ghost_name
+
+module _ {p base : Pending} (lent : Lent p base) where
+  -- the rows that a walk may ask for, where what is pending is a list
+  pub room_of : (rows : List Row) (row : ℕ) → base.len + row < length rows → length (rows_in base) + row < length rows
+  room_of rows row room = omega (arith, sized base lent.below, room)
+
+  -- there are as many as where the walk began, or more
+  pub no_more : p.len ≡ base.len → length (rows_in p) ≡ length (rows_in base)
+  no_more same = omega (arith, sized p lent.long, sized base lent.below, same)
+
+  pub more_pending :
+      base.len < most_rows → length (rows_in p) < most_rows → (p.len ≡ base.len → ⊥) → length (rows_in p) ≡ length (rows_in base) → ⊥
+  more_pending few here more e = more (omega (arith, few, here, sized p lent.long, sized base lent.below, e))
+
+-- what was popped after a part left what is pending as it was is the last that was pending
+pub popped_is :
+    {before after : List ℕ} → after ≡ before → (left : List ℕ) {x y : ℕ} → after ≡ left ++ x ∷ [] → y ≡ x → before ≡ left ++ y ∷ []
+popped_is kept left popped same = sym kept ∙ popped ∙ ap (λ (n : ℕ). left ++ n ∷ []) (sym same)

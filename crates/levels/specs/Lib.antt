@@ -1,2 +1,3 @@
 -- What this crate's contracts cite besides the rules.
 pub mod Found
+pub mod Pending

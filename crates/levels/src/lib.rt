@@ -17,12 +17,12 @@ use table::judged::JudgedTable;
 
 // What is said of the lowest failing row, where there is one.
 // 8.7: The check passes where no output fails, and else fails at the lowest row that does; ..
-fn checked_at(lowest: Option<u32>) -> Checked
+fn checked_at(lowest: Option<u16>) -> Checked
     ensures { result ≡ checked_at lowest }
 {
     match lowest {
         None => Checked::Pass,
-        Some(row) => Checked::Fail(row),
+        Some(row) => Checked::Fail(u32::from(row)),
     }
 }
 
