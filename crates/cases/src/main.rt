@@ -79,9 +79,7 @@ fn write_end_of_run(rt: &impl Print, ended: Ended) -> io::Result<()> {
         Ended::Stopped { row, because } => print!(rt; "0 1 {row} {because}"),
         Ended::Spent => print!(rt; "0 2 0 0"),
         Ended::NoRoom(row) => print!(rt; "0 3 {row} 0"),
-        Ended::Refused(refusal) => {
-            print!(rt; "1 {} {} 0", u32::from(refusal.fault), refusal.row)
-        }
+        Ended::Refused { number, row } => print!(rt; "1 {number} {row} 0"),
     }
 }
 

@@ -84,7 +84,11 @@ impl From<Ended> for Numbers {
             Ended::Stopped { row, .. } => Numbers::verdict(1, row),
             Ended::Spent => Numbers::verdict(2, 0),
             Ended::NoRoom(row) => Numbers::verdict(3, row),
-            Ended::Refused(refusal) => refusal.into(),
+            Ended::Refused { number, row } => Numbers {
+                refusal: number,
+                verdict: 0,
+                row,
+            },
         }
     }
 }

@@ -157,7 +157,7 @@ run_told i ok fits a after told = subst (λ (w : Whole). Tells w i.trace a after
 -- a refused call
 pub away_told :
     (i : Inputs) (refusal : Refusal) → answer i ≡ turned_away (number_of refusal.fault) refusal.row i → (a : Answer)
-    → a ≡ record { ended = Ended.Refused refusal; steps = 0; records = 0; memory = record { words = i.memory }; marks = i.marks }
+    → a ≡ record { ended = Ended.Refused (number_of refusal.fault) refusal.row; steps = 0; records = 0; memory = record { words = i.memory }; marks = i.marks }
     → RunAnswers i a i.trace
 away_told i refusal is a ea = record {
   told = ap told_of ea ∙ telling_law _ (turned_away (number_of refusal.fault) refusal.row i) refl refl refl refl refl refl ∙ ap telling (sym is);

@@ -6,7 +6,7 @@ use Rattle.rules.specs.declared.Memory.{Memory}
 use Rattle.rules.specs.declared.Refusal.{Refusal}
 use Rattle.rules.specs.declared.Row.{Row}
 use Rattle.rules.specs.Running.{outcome, run}
-use Rattle.rules.specs.Answers.{terms_of}
+use Rattle.rules.specs.Answers.{number_of, terms_of}
 use Rattle.step.specs.declared.Machine.{Machine}
 use Rattle.step.specs.Denoted.{Held, Arrays, arrays, held_of, state_of, Holds}
 use Rattle.step.specs.Turns.{Kept}
@@ -14,7 +14,8 @@ use Rattle.monitor.specs.declared.Finish.{Finish}
 
 -- what a refused run answers: 0 steps and 0 records, memory and marks as given
 abbrev pub turned_away : Refusal → Memory → ℕ → Answer
-turned_away refusal memory marks = record { ended = Ended.Refused refusal; steps = 0; records = 0; memory = memory; marks = marks }
+turned_away refusal memory marks =
+    record { ended = Ended.Refused (number_of refusal.fault) refusal.row; steps = 0; records = 0; memory = memory; marks = marks }
 
 -- How a run ended, and the state that it has reached: the memory, and how much of each array the rest takes.
 pub record Reached : Type 0 where

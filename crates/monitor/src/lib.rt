@@ -62,7 +62,10 @@ fn turned_away(refusal: Refusal, memory: Memory, marks: Marks) -> Answer
     ensures { result ≡ turned_away refusal memory marks }
 {
     Answer {
-        ended: Ended::Refused(refusal),
+        ended: Ended::Refused {
+            number: u32::from(refusal.fault),
+            row: refusal.row,
+        },
         steps: 0,
         records: 0,
         memory,

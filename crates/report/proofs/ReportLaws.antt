@@ -12,8 +12,7 @@ use lib.Seq.{sets-eq, take_all}
 use borrow.Author.Tests.{lt-leb, le-leb}
 use Rattle.rules.specs.declared.Answer.{Answer}
 use Rattle.rules.specs.declared.Ended.{Ended}
-use Rattle.rules.specs.declared.Refusal.{Refusal}
-use Rattle.rules.specs.Answers.{Said, verdict, number_of, said_of_run, because_of}
+use Rattle.rules.specs.Answers.{Said, verdict, said_of_run, because_of}
 use Rattle.rules.specs.Limits.{width, record_words}
 use Rattle.rules.specs.Marks.{marked}
 use Rattle.rules.specs.Running.{Record}
@@ -229,7 +228,7 @@ ended_verdict Ended.Done number place said a trace out = refl
 ended_verdict (Ended.Stopped row because) number place said a trace out = refl
 ended_verdict Ended.Spent number place said a trace out = refl
 ended_verdict (Ended.NoRoom row) number place said a trace out = refl
-ended_verdict (Ended.Refused refusal) number place said a trace out = let z : ◌≡◌ {A = ℕ} 0 1 = cc in absurd (omega arith)
+ended_verdict (Ended.Refused refusal row) number place said a trace out = let z : ◌≡◌ {A = ℕ} 0 1 = cc in absurd (omega arith)
 
 module _ (a : Answer) (trace out : List ℕ) where
   pub written_verdict : (e : Ended) (number place because : ℕ) → a.ended ≡ e → said_of_run e ≡ verdict number place → because_of e ≡ because
@@ -240,10 +239,9 @@ module _ (a : Answer) (trace out : List ℕ) where
       ap (λ (text : List ℕ). run_written a.records text trace out) (report_verdict a trace number place because s (ap because_of h ∙ set))
       ∙ ended_verdict a.ended number place s a trace out
 
-  pub written_refused :
-      (refusal : Refusal) → a.ended ≡ Ended.Refused refusal → refusal_written (number_of refusal.fault) refusal.row out ≡ report_written a trace out
+  pub written_refused : (number row : ℕ) → a.ended ≡ Ended.Refused number row → refusal_written number row out ≡ report_written a trace out
   unfolding report_written ended_written
-  written_refused refusal h = sym (ap (λ (e : Ended). ended_written e a trace out) h)
+  written_refused number row h = sym (ap (λ (e : Ended). ended_written e a trace out) h)
 
 -- ---- a buffer with room for the longest report
 
@@ -252,10 +250,10 @@ unfolding placed_in
 placed_alike room most text out h k =
     ap (λ (b : Bool). fitted b text out) (le-leb room (length out) h ∙ sym (le-leb most (length out) k))
 
-report_refused : (a : Answer) (trace : List ℕ) (refusal : Refusal) → a.ended ≡ Ended.Refused refusal
-    → refusal_text (number_of refusal.fault) refusal.row ≡ report (whole_of a trace)
+report_refused : (a : Answer) (trace : List ℕ) (number row : ℕ) → a.ended ≡ Ended.Refused number row
+    → refusal_text number row ≡ report (whole_of a trace)
 unfolding report said_text whole_of
-report_refused a trace refusal e = sym (ap (λ (said : Said). said_text said (whole_of a trace)) (ap said_of_run e))
+report_refused a trace number row e = sym (ap (λ (said : Said). said_text said (whole_of a trace)) (ap said_of_run e))
 
 module _ (room : ℕ) (out : List ℕ) (fits : room ≤ length out) where
   -- what a refusal leaves in it
@@ -279,9 +277,8 @@ module _ (room : ℕ) (out : List ℕ) (fits : room ≤ length out) where
       by (Ended.Stopped row because) e = ran
       by Ended.Spent e = ran
       by (Ended.NoRoom row) e = ran
-      by (Ended.Refused refusal) e =
-          refusal_placed (number_of refusal.fault) refusal.row (omega arith)
-          ∙ ap (λ (text : List ℕ). placed_in room text out) (report_refused a trace refusal e)
+      by (Ended.Refused number row) e =
+          refusal_placed number row (omega arith) ∙ ap (λ (text : List ℕ). placed_in room text out) (report_refused a trace number row e)
 
 -- ---- two answers that say the same are the same: each is read back from what it says
 

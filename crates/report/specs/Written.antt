@@ -5,7 +5,7 @@ use Rattle.rules.specs.declared.Ended.{Ended}
 use Rattle.rules.specs.declared.Answer.{Answer}
 use Rattle.rules.specs.Limits.{width, record_words}
 use Rattle.rules.specs.Running.{Record}
-use Rattle.rules.specs.Answers.{number_of, said_of_run, because_of, Whole}
+use Rattle.rules.specs.Answers.{said_of_run, because_of, Whole}
 use Rattle.report.specs.declared.Unwritten.{Unwritten}
 use Rattle.lines.specs.Limits.{most_digits}
 use Rattle.lines.specs.Lines.{comma, line_end, levels_key}
@@ -103,7 +103,7 @@ ended_written Ended.Done a trace out = run_written a.records (report (whole_of a
 ended_written (Ended.Stopped row because) a trace out = run_written a.records (report (whole_of a trace)) trace out
 ended_written Ended.Spent a trace out = run_written a.records (report (whole_of a trace)) trace out
 ended_written (Ended.NoRoom row) a trace out = run_written a.records (report (whole_of a trace)) trace out
-ended_written (Ended.Refused refusal) a trace out = refusal_written (number_of refusal.fault) refusal.row out
+ended_written (Ended.Refused number row) a trace out = refusal_written number row out
 
 unfoldable pub report_written : Answer → List ℕ → List ℕ → Written
 report_written a trace out = ended_written a.ended a trace out

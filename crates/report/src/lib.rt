@@ -223,9 +223,7 @@ pub fn write_report(answer: Answer, trace: &[u32], out: &mut [u8]) -> Result<usi
         Ended::Stopped { row, because } => (1, row, because),
         Ended::Spent => (2, 0, 0),
         Ended::NoRoom(row) => (3, row, 0),
-        Ended::Refused(refusal) => {
-            return write_refusal(u32::from(refusal.fault), refusal.row, out);
-        }
+        Ended::Refused { number, row } => return write_refusal(number, row, out),
     };
     write_run(
         Verdict {

@@ -113,7 +113,7 @@ because_none Ended.Done among = none_zero
 because_none (Ended.Stopped row because) among = absurd (miss (0 ∷ 2 ∷ 3 ∷ 4 ∷ []) 1 tt among)
 because_none Ended.Spent among = none_zero
 because_none (Ended.NoRoom row) among = none_zero
-because_none (Ended.Refused refusal) among = none_zero
+because_none (Ended.Refused number row) among = none_zero
 
 -- ---- what an answer tells
 
@@ -222,7 +222,7 @@ judge_unique a b e =
 
 ended_back : Said → ℕ → Ended
 ended_back accepted because = Ended.Done
-ended_back (refused number row) because = Ended.Refused (refusal_back number row)
+ended_back (refused number row) because = Ended.Refused number row
 ended_back (verdict number place) because =
     cond (eqb number 0) Ended.Done
     (cond (eqb number 1) (Ended.Stopped place because) (cond (eqb number 2) Ended.Spent (Ended.NoRoom place)))
@@ -235,7 +235,7 @@ ended_back_lem Ended.Done = refl
 ended_back_lem (Ended.Stopped row because) = refl
 ended_back_lem Ended.Spent = refl
 ended_back_lem (Ended.NoRoom row) = refl
-ended_back_lem (Ended.Refused refusal) = ap Ended.Refused (refusal_back_lem refusal)
+ended_back_lem (Ended.Refused number row) = refl
 
 pub ended_unique : (a b : Ended) → said_of_run a ≡ said_of_run b → because_of a ≡ because_of b → a ≡ b
 ended_unique a b e f = sym (ended_back_lem a) ∙ ap₂ ended_back e f ∙ ended_back_lem b

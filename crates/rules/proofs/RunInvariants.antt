@@ -185,7 +185,7 @@ IsDone Ended.Done = Unit {0}
 IsDone (Ended.Stopped row because) = ⊥
 IsDone Ended.Spent = ⊥
 IsDone (Ended.NoRoom row) = ⊥
-IsDone (Ended.Refused refusal) = ⊥
+IsDone (Ended.Refused number row) = ⊥
 
 -- the outcome is done and nothing is pending, or it is not done and something is
 data Told (o : Outcome) : Type 0 where
@@ -245,7 +245,7 @@ Verdict Ended.Done = Unit {0}
 Verdict (Ended.Stopped row because) = Unit {0}
 Verdict Ended.Spent = Unit {0}
 Verdict (Ended.NoRoom row) = Unit {0}
-Verdict (Ended.Refused refusal) = ⊥
+Verdict (Ended.Refused number row) = ⊥
 
 module _ (terms : Terms) where
   follow_verdict : (onward : State → Outcome) → ((σ : State) → Verdict (onward σ).ended) → (σ : State) (a : Attempt) → Verdict (follow onward σ a).ended
@@ -270,7 +270,7 @@ module _ (terms : Terms) where
   unrefused (Ended.Stopped place because) v number row e = let z : ◌≡◌ {A = ℕ} 0 1 = cc in omega arith
   unrefused Ended.Spent v number row e = let z : ◌≡◌ {A = ℕ} 0 1 = cc in omega arith
   unrefused (Ended.NoRoom place) v number row e = let z : ◌≡◌ {A = ℕ} 0 1 = cc in omega arith
-  unrefused (Ended.Refused refusal) v number row e = v
+  unrefused (Ended.Refused number' row') v number row e = v
 
   pub run_unrefused : (budget : ℕ) (σ : State) (number row : ℕ) → said_of_run (run terms budget σ).ended ≡ refused number row → ⊥
   run_unrefused budget σ number row e = unrefused (run terms budget σ).ended (run_verdict budget σ) number row e

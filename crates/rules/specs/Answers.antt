@@ -49,7 +49,7 @@ said_of_run Ended.Done = verdict 0 0
 said_of_run (Ended.Stopped row because) = verdict 1 row
 said_of_run Ended.Spent = verdict 2 0
 said_of_run (Ended.NoRoom row) = verdict 3 row
-said_of_run (Ended.Refused refusal) = refused (number_of refusal.fault) refusal.row
+said_of_run (Ended.Refused number row) = refused number row
 
 -- 6.10: .. they are answered for verdict 1, and the empty set for the others and for a refusal.
 abbrev pub because_of : Ended → ℕ
@@ -57,7 +57,7 @@ because_of Ended.Done = none
 because_of (Ended.Stopped row because) = because
 because_of Ended.Spent = none
 because_of (Ended.NoRoom row) = none
-because_of (Ended.Refused refusal) = none
+because_of (Ended.Refused number row) = none
 
 abbrev pub said_of_check : Checked → Said
 said_of_check Checked.Pass = pass

@@ -120,7 +120,8 @@ pub enum Ended {
     Stopped { row: u32, because: Marks },
     Spent,
     NoRoom(u32),
-    Refused(Refusal),
+    // Stays: the refusal's number, since an answer that is refused by any number is one that a report writes (docs/CONTRACTS.md).
+    Refused { number: u32, row: u32 },
 }
 
 // What a run answers. Its records are the first words of the trace.

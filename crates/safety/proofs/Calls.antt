@@ -6,7 +6,6 @@ use mathlib.Core.List.{List, [], ◌∷◌, ◌++◌}
 use mathlib.Core.Path.{◌≡◌, refl, sym, ap, ap₂, ◌∙◌, subst, subst₂}
 use lib.ListN.{length}
 use Rattle.std.specs.Prelude.{Result, Ok, Err}
-use Rattle.rules.specs.declared.Fault.{Fault}
 use Rattle.rules.specs.declared.Refusal.{Refusal}
 use Rattle.rules.specs.declared.Answer.{Answer}
 use Rattle.rules.specs.declared.Ended.{Ended}
@@ -72,9 +71,9 @@ call_judges words judged said = said_judged words said
 
 -- ---- Demand 1
 
-returned : (i : Inputs) (a : Answer) (after : List ℕ) → RunAnswers i a after → (refusal : Refusal) → a.ended ≡ Ended.Refused refusal → Returned i a after
-returned i a after called refusal e =
-    let kept = refusals_touch_nothing i (number_of refusal.fault) refusal.row (answer_said i a after called (Ended.Refused refusal) e) in
+returned : (i : Inputs) (a : Answer) (after : List ℕ) → RunAnswers i a after → (number row : ℕ) → a.ended ≡ Ended.Refused number row → Returned i a after
+returned i a after called number row e =
+    let kept = refusals_touch_nothing i number row (answer_said i a after called (Ended.Refused number row) e) in
     record {
       no_step = told_steps a (answer i) called.told ∙ kept.no_step;
       no_record = told_records a (answer i) called.told ∙ ap length kept.no_record;
@@ -92,12 +91,12 @@ call_ends i a after called = (
 pub call_is_refused_as_judged : CallIsRefusedAsJudged
 call_is_refused_as_judged i judged a after said called = record {
   bad_table = λ refusal e.
-      ended_as i a after called (Ended.Refused refusal) _
+      ended_as i a after called (Ended.Refused (number_of refusal.fault) refusal.row) _
       (answer_refused i (number_of refusal.fault) refusal.row (judged_as i.words said e)) refl refl;
-  oversized = λ e over. ended_as i a after called (Ended.Refused (record { fault = Fault.LongTrace; row = 0 })) _ (answer_oversized i (judged_as i.words said e) over) refl refl;
-  admitted = λ e fits refusal f.
-      run_unrefused (terms_of (length i.trace)) i.budget (start_of i.words i.memory i.marks) (number_of refusal.fault) refusal.row
-      (sym (ap (λ (x : Whole). x.said) (answer_ran i (judged_as i.words said e) fits ∙ shown_law i)) ∙ answer_said i a after called (Ended.Refused refusal) f);
+  oversized = λ e over. ended_as i a after called (Ended.Refused 6 0) _ (answer_oversized i (judged_as i.words said e) over) refl refl;
+  admitted = λ e fits number row f.
+      run_unrefused (terms_of (length i.trace)) i.budget (start_of i.words i.memory i.marks) number row
+      (sym (ap (λ (x : Whole). x.said) (answer_ran i (judged_as i.words said e) fits ∙ shown_law i)) ∙ answer_said i a after called (Ended.Refused number row) f);
 }
 
 -- ---- Demand 2

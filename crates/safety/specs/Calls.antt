@@ -1,7 +1,6 @@
 -- The demands for whoever calls the judge, the run or the level check: over the answers and traces that their contracts allow.
 -- Each hypothesis about a call is the contract of the function itself.
 use Rattle.std.specs.Prelude.{ℕ, zero, suc, ◌≤◌, ◌<◌, true, false, List, [], ◌∷◌, ◌↔◌, ◌≡◌, length, Result, Ok, Err}
-use Rattle.rules.specs.declared.Fault.{Fault}
 use Rattle.rules.specs.declared.Refusal.{Refusal}
 use Rattle.rules.specs.declared.Answer.{Answer}
 use Rattle.rules.specs.declared.Ended.{Ended}
@@ -14,7 +13,7 @@ use Rattle.rules.specs.Judging.{judge}
 use Rattle.rules.specs.Marks.{◌⊆◌, provisional}
 use Rattle.rules.specs.Running.{Record, context, run}
 use Rattle.rules.specs.LevelRules.{Choice, result, failing}
-use Rattle.rules.specs.Answers.{judged_of, said_of_run, because_of, Whole, Inputs, terms_of, started, answer, JudgeAnswers, RunAnswers, CheckAnswers}
+use Rattle.rules.specs.Answers.{number_of, judged_of, said_of_run, because_of, Whole, Inputs, terms_of, started, answer, JudgeAnswers, RunAnswers, CheckAnswers}
 use Rattle.safety.specs.Demands.{Least, Names, SameRun, unwatched, TwoMemories, EitherBegins, SameToTheStations}
 
 -- ---- what a caller reads off
@@ -58,18 +57,17 @@ pub record Returned (i : Inputs) (a : Answer) (after : List ℕ) : Type 0 where
 abbrev pub CallEnds : Type 0
 CallEnds =
     (i : Inputs) (a : Answer) (after : List ℕ) → RunAnswers i a after
-    → (a.steps ≤ i.budget) × ((refusal : Refusal) → a.ended ≡ Ended.Refused refusal → Returned i a after)
+    → (a.steps ≤ i.budget) × ((number row : ℕ) → a.ended ≡ Ended.Refused number row → Returned i a after)
 
 -- A call of the run is refused where a call of the judge refuses its table, with the same number and row; else where the
 -- trace is oversized; and nowhere else.
 -- 4.7: Of the refusals 1 to 6 that apply anywhere, the one with the lowest number is given, at the lowest row at which it
 -- applies; where none applies the table is accepted.
 pub record RefusedAsJudged (i : Inputs) (judged : Result (Unit {0}) Refusal) (a : Answer) : Type 0 where
-  pub bad_table : (refusal : Refusal) → judged ≡ Err refusal → a.ended ≡ Ended.Refused refusal
-  pub oversized :
-      judged ≡ Ok tt → most_trace_words < length i.trace → a.ended ≡ Ended.Refused (record { fault = Fault.LongTrace; row = 0 })
+  pub bad_table : (refusal : Refusal) → judged ≡ Err refusal → a.ended ≡ Ended.Refused (number_of refusal.fault) refusal.row
+  pub oversized : judged ≡ Ok tt → most_trace_words < length i.trace → a.ended ≡ Ended.Refused 6 0
   pub admitted :
-      judged ≡ Ok tt → length i.trace ≤ most_trace_words → (refusal : Refusal) → a.ended ≡ Ended.Refused refusal → ⊥
+      judged ≡ Ok tt → length i.trace ≤ most_trace_words → (number row : ℕ) → a.ended ≡ Ended.Refused number row → ⊥
 
 abbrev pub CallIsRefusedAsJudged : Type 0
 CallIsRefusedAsJudged =

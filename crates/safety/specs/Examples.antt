@@ -95,5 +95,5 @@ CallsRefuse =
     JudgeAnswers (words_of bad) (Err parentless)
     × CheckAnswers (words_of bad) usual_marks (record { checked = Checked.Refused parentless; marks = 1 })
     × RunAnswers (given bad [])
-    (record { ended = Ended.Refused parentless; steps = 0; records = 0; memory = record { words = memory_of [] }; marks = 1 })
+    (record { ended = Ended.Refused 4 0; steps = 0; records = 0; memory = record { words = memory_of [] }; marks = 1 })
     usual_trace

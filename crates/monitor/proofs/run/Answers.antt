@@ -1,6 +1,7 @@
 -- `monitor::run` meets its contract.
 use native.Mathlib.Omega.{arith}
 use borrow.Author.Rules.{rules}
+use Rattle.rules.specs.declared.Fault.{Fault}
 use Rattle.rules.proofs.AnswerLaws.{judged_as, judged_ok, answer_refused, answer_oversized}
 use Rattle.rules.specs.Answers.{inputs}
 use Rattle.monitor.proofs.CallLaws.{run_told, away_told}
@@ -17,7 +18,7 @@ pub returns-then-trace-gt-MOST_TRACE_WORDS : goal.returns-then-trace-gt-MOST_TRA
 returns-then-trace-gt-MOST_TRACE_WORDS c =
     let a = c.args in
     let i = inputs a.table.now a.memory.words a.marks a.budget a.trace.now in
-    away_told i _ (answer_oversized i (judged_ok a.table.now c.judge.ensures (search rules)) c.if-trace-gt-MOST_TRACE_WORDS.true)
+    away_told i (record { fault = Fault.LongTrace; row = 0 }) (answer_oversized i (judged_ok a.table.now c.judge.ensures (search rules)) c.if-trace-gt-MOST_TRACE_WORDS.true)
     c.turned_away-then-trace-gt-MOST_TRACE_WORDS.result c.turned_away-then-trace-gt-MOST_TRACE_WORDS.ensures
 
 pub run_accepted-requires : goal.run_accepted-requires

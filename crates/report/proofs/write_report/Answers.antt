@@ -1,9 +1,7 @@
 -- `report::write_report` meets its contract. Assumes nothing.
-use Prim.Native.Nat.{ℕ}
-use mathlib.Core.Path.{refl, ap, ◌∙◌}
+use mathlib.Core.Path.{refl, ◌∙◌}
 use Rattle.rules.specs.declared.Ended.{Ended}
 use Rattle.rules.proofs.MarkLaws.{none_zero}
-use Rattle.report.specs.Written.{refusal_written}
 use Rattle.report.proofs.ReportLaws.{written_verdict, written_refused}
 use Rattle.report.proofs.write_report.Goals as goal
 use Rattle.report.proofs.write_report.Goals.{in-Done, in-Stopped, in-Spent, in-NoRoom}
@@ -12,8 +10,7 @@ pub returns-in-Refused : goal.returns-in-Refused
 returns-in-Refused c =
     let args = c.args in
     c.write_refusal.ensures
-    ∙ ap (λ (n : ℕ). refusal_written n c.in-Refused.refusal.row args.out.now) c.from.ensures
-    ∙ written_refused args.answer args.trace.now args.out.now c.in-Refused.refusal c.in-Refused.is
+    ∙ written_refused args.answer args.trace.now args.out.now c.in-Refused.number c.in-Refused.row c.in-Refused.is
 
 pub returns : goal.returns
 returns c =
