@@ -176,7 +176,7 @@ impl Writer<'_> {
 }
 
 // Writes the report of a refusal, of a job or of a run.
-// Stays: the refusal's number itself, since a job's refusals and a run's are of two enums, and a report has the numbers of both.
+// Stays: the refusal's number itself, since a job's refusal is of an enum, a run's is a number, and a report has the numbers of both.
 pub fn write_refusal(number: u32, at: u32, out: &mut [u8]) -> Result<usize, Unwritten>
     ensures { (record { said = said_of_wrote result; out = out.new }) ≡ refusal_written number at out.old }
 {
